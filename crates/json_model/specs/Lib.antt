@@ -1,0 +1,7 @@
+pub mod Decimal
+pub mod Tree
+pub mod Parts
+pub mod Keys
+pub mod Same
+pub mod Nest
+pub mod Json

@@ -1,0 +1,11 @@
+pub mod Tools
+pub mod Words
+pub mod Runs
+pub mod Numbers
+pub mod Scalars
+pub mod KeyRuns
+pub mod Openings
+pub mod Containers
+pub mod Narrow
+pub mod Theory
+pub mod Cuts

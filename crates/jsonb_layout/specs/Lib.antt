@@ -1,0 +1,6 @@
+pub mod Layout
+pub mod Numeric
+pub mod Stands
+pub mod Narrow
+pub mod Reading
+pub mod Trees

@@ -14,7 +14,7 @@ abbrev pub rises_after : Option (List ℕ) → List (List ℕ) → Bool
 rises_after None ks = rises ks
 rises_after (Some before) ks = rises (before ∷ ks)
 
-rises_more : (before : Option (List ℕ)) (k : List ℕ) (ks : List (List ℕ)) → follows before k ≡ true → rises (k ∷ ks) ≡ true → rises_after before (k ∷ ks) ≡ true
+pub rises_more : (before : Option (List ℕ)) (k : List ℕ) (ks : List (List ℕ)) → follows before k ≡ true → rises (k ∷ ks) ≡ true → rises_after before (k ∷ ks) ≡ true
 rises_more None k ks f r = r
 rises_more (Some b) k ks f r = rw (f, r) refl
 
@@ -31,7 +31,7 @@ pub record KeyRun (before : Option (List ℕ)) (p q : Place) (ks : List (List �
 key_is : (x : Item) → x.kind ≡ 0 → x ≡ key_item x.piece
 key_is x h = ap (λ (k : ℕ). let y : Item = record { kind = k; piece = x.piece } in y) h
 
-starts : (before : Option (List ℕ)) → rises_after before [] ≡ true
+pub starts : (before : Option (List ℕ)) → rises_after before [] ≡ true
 starts None = refl
 starts (Some b) = refl
 

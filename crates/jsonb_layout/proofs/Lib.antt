@@ -9,3 +9,6 @@ pub mod Containers
 pub mod Narrow
 pub mod Theory
 pub mod Cuts
+pub mod Sizes
+pub mod Unrolled
+pub mod Shapes

@@ -66,6 +66,10 @@ pub record Place : Type 0 where
   pub words : List ℕ
   pub rest : List ℕ
 
+-- how many bytes there are from a place on
+abbrev pub size : Place → ℕ
+size p = length p.words + length p.rest
+
 -- the length of the piece that an entry word gives
 unfoldable pub length_of : ℕ → ℕ → ℕ → Option ℕ
 length_of index at word =

@@ -1,0 +1,82 @@
+//! The items that have no items in them.
+
+ghost use Rattle.std.specs.Prelude.{◌≡◌, ◌==◌, ◌<◌, ◌^◌, length, option_map, MatchOption, false};
+ghost use Rattle.std.specs.List.{list_all};
+ghost use Rattle.std.specs.Str.{is_utf8};
+ghost use Rattle.jsonb_layout.specs.Reading.{unpadded, scalar_of};
+ghost use Rattle.jsonb.specs.Found.{scalar_found};
+ghost use Rattle.jsonb.specs.Views.{item};
+
+use crate::found::Found;
+use crate::numeric::narrow_number;
+use crate::position::Entry;
+
+/// The text that the bytes are.
+#[tactic(auto, using(crate::proofs::Texts::text_true, crate::proofs::Texts::text_false))]
+pub fn text(bytes: &[u8]) -> Option<&str>
+    ensures { MatchOption result (is_utf8 bytes.now ≡ false) (λ s. s.now ≡ bytes.now) }
+{
+    match str::from_utf8(bytes) {
+        Ok(text) => Some(text),
+        Err(_) => None,
+    }
+}
+
+#[tactic(auto, using(crate::proofs::Texts::text_true, crate::proofs::Texts::text_false))]
+pub fn is_text(bytes: &[u8]) -> bool
+    ensures { result ≡ is_utf8 bytes.now }
+{
+    match str::from_utf8(bytes) {
+        Ok(_) => true,
+        Err(_) => false,
+    }
+}
+
+fn all_zero(bytes: &[u8]) -> bool
+    ensures { result ≡ list_all (λ b. b == 0) bytes.now }
+{
+    bytes.iter().all(|byte| *byte == 0)
+}
+
+/// The bytes behind the zero bytes that bring a place to a multiple of four.
+#[tactic(auto, unfolding(jsonb_layout::specs::Reading::unpadded))]
+pub fn unpad(at: usize, piece: &[u8]) -> Option<&[u8]>
+    ensures { option_map (λ x. x.now) result ≡ unpadded at piece.now }
+{
+    let pad = (4 - at % 4) % 4;
+    if piece.len() < pad {
+        return None;
+    }
+    let (front, rest) = piece.split_at(pad);
+    if all_zero(front) { Some(rest) } else { None }
+}
+
+/// What is found in a scalar's item at a place, or none where the item stands for no scalar.
+#[tactic(auto, unfolding(jsonb_layout::specs::Reading::scalar_of))]
+pub fn scalar(at: usize, entry: Entry<'_>) -> Option<Found>
+    requires { length entry.piece.now < 2 ^ 28 }
+    ensures { result ≡ option_map scalar_found (scalar_of at (item entry.entry)) }
+{
+    match entry.kind {
+        0 => Some(Found {
+            not_text: !is_text(entry.piece),
+            wide: false,
+        }),
+        1 => {
+            let bytes = unpad(at, entry.piece)?;
+            let narrow = narrow_number(bytes)?;
+            Some(Found {
+                not_text: false,
+                wide: !narrow,
+            })
+        }
+        2 | 3 | 4 => {
+            if entry.piece.is_empty() {
+                Some(Found::NOTHING)
+            } else {
+                None
+            }
+        }
+        _ => None,
+    }
+}

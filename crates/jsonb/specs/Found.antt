@@ -1,8 +1,7 @@
 -- What keeps a tree from being JSON, as the reader keeps it: whether some string or key is no UTF-8, and whether some
 -- decimal is not narrow. The reader's own; `IsText` and `HasNarrow` are what a user believes.
-use Rattle.std.specs.Prelude.{◌≡◌, ℕ, List, [], ◌∷◌, Option, Some, None, Bool, true, false, ◌||◌, not}
+use Rattle.std.specs.Prelude.{ℕ, List, [], ◌∷◌, Option, Some, false, ◌||◌, not}
 use Rattle.std.specs.Str.{is_utf8}
-use Rattle.json_model.specs.Decimal.{Decimal}
 use Rattle.json_model.specs.Tree.{Scalar, null, boolean, number, string, Tree, scalar, array, object, Elements, no_elements, element, Members, no_members, member}
 use Rattle.jsonb_layout.specs.Narrow.{is_narrow}
 use Rattle.jsonb_layout.specs.Reading.{Place, ◌>>=◌}

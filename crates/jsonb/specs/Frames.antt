@@ -1,9 +1,10 @@
 -- What the reader has still to do: frames, each so many values from a place on, to the end of a container's payload.
-use Rattle.std.specs.Prelude.{◌≡◌, ℕ, ◌+◌, ◌≤◌, List, [], ◌∷◌, length, map, Option, Some, None, Result, Ok, Err, option_map}
-use Rattle.json_model.specs.Tree.{Tree, Elements}
+use Rattle.std.specs.Prelude.{◌≡◌, ℕ, ◌+◌, ◌<◌, ◌≤◌, List, [], ◌∷◌, Option, Some, None, Result, Ok, Err, IfSome, option_map}
+use Rattle.json_model.specs.Tree.{Scalar, Tree, scalar, Elements}
 use Rattle.json_model.specs.Nest.{nest, nest_elements}
-use Rattle.jsonb_layout.specs.Reading.{◌>>=◌, Place, ended}
-use Rattle.jsonb_layout.specs.Trees.{read, elements_by}
+use Rattle.jsonb_layout.specs.Reading.{◌>>=◌, Place, size, ended}
+use Rattle.jsonb_layout.specs.Layout.{Item}
+use Rattle.jsonb_layout.specs.Trees.{read, item_tree, elements_by}
 use Rattle.jsonb.specs.Found.{nothing, both, tree_found, elements_found}
 use Rattle.jsonb.specs.Views.{place}
 use Rattle.jsonb.specs.declared.found.Found.{Found}
@@ -42,9 +43,6 @@ HoldsScalars f = (r : Elements × Place) → elements_by read f.left (place f.po
 
 -- ---- how much is left to do
 
-abbrev pub size : Place → ℕ
-size p = length p.words + length p.rest
-
 abbrev pub frame_weight : Frame → ℕ
 frame_weight f = size (place f.position) + 1
 
@@ -57,6 +55,39 @@ next_weight None = 0
 next_weight (Some f) = frame_weight f
 
 -- ---- what code answers
+
+-- an item that is no scalar
+abbrev pub IsInside : ℕ → Item → Type 0
+IsInside at x = (s : Scalar) → item_tree at x ≡ Some (scalar s) → ⊥
+
+-- why what is left is not put off, where r is what is found in it
+abbrev pub SuspendCause : Option Found → JsonbError → Type 0
+SuspendCause r errors.Malformed = r ≡ None
+SuspendCause r errors.NotText = ⊥
+SuspendCause r errors.NumberTooWide = ⊥
+SuspendCause r errors.OutOfMemory = Unit {0}
+
+-- where a frame that can be read holds only scalars and nothing is put off, nothing is put off then
+abbrev pub StaysFlat : Frame → List Frame → List Frame → Option Frame → Type 0
+StaysFlat frame old new next = (g : Found) → frame_found frame ≡ Some g → HoldsScalars frame → old ≡ [] → (new ≡ []) × IfSome next HoldsScalars
+
+-- found was found, and next and new are what is left of frame and old
+pub record Steps (frame : Frame) (old new : List Frame) (found : Found) (next : Option Frame) : Type 0 where
+  pub so_far : combine (frame_found frame) (frames_found old) ≡ combine (Some found) (combine (next_found next) (frames_found new))
+  pub smaller : next_weight next + frames_weight new < frame_weight frame + frames_weight old
+  pub last : next ≡ None → new ≡ []
+  pub flat : StaysFlat frame old new next
+
+-- why a frame can not be read on: memory is wanted only where a container stands in it
+abbrev pub StepCause : Frame → JsonbError → Type 0
+StepCause frame errors.Malformed = frame_found frame ≡ None
+StepCause frame errors.NotText = ⊥
+StepCause frame errors.NumberTooWide = ⊥
+StepCause frame errors.OutOfMemory = (g : Found) → frame_found frame ≡ Some g → HoldsScalars frame → ⊥
+
+abbrev pub StepsTo : Frame → List Frame → List Frame → Result (Found × Option Frame) JsonbError → Type 0
+StepsTo frame old new (Ok r) = Steps frame old new r.0 r.1
+StepsTo frame old new (Err e) = StepCause frame e
 
 -- of a container
 abbrev pub Searched : List ℕ → Result Found JsonbError → Type 0

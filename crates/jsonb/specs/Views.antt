@@ -1,5 +1,5 @@
 -- What the code's values are to the definitions.
-use Rattle.std.specs.Prelude.{ℕ, List, map}
+use Rattle.std.specs.Prelude.{ℕ}
 use Rattle.jsonb_layout.specs.Layout.{Item, Form, list, pairs, lone}
 use Rattle.jsonb_layout.specs.Reading.{Place}
 use Rattle.jsonb.specs.declared.found.Found.{Found}

@@ -25,7 +25,8 @@ fn is_key(before: Option<&[u8]>, entry: Entry<'_>) -> bool
     }
     match before {
         None => true,
-        Some(before) => before.len() < entry.piece.len() || (before.len() == entry.piece.len() && comes_before(before, entry.piece)),
+        Some(before) => before.len() < entry.piece.len()
+            || (before.len() == entry.piece.len() && comes_before(before, entry.piece)),
     }
 }
 

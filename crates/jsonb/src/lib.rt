@@ -3,17 +3,12 @@
 
 mod error;
 mod found;
+mod frame;
 mod keys;
-mod kind;
-mod level;
-mod node;
 mod numeric;
 mod opening;
-mod own;
 mod position;
-mod root;
 mod scalar;
+mod search;
 
 pub use error::JsonbError;
-pub use node::JsonbNode;
-pub use root::Jsonb;

@@ -20,8 +20,15 @@ fn varlena(bytes: &[u8]) -> Option<&[u8]>
     ensures len { IfSome result (λ x. length x.now ≤ length bytes.now) }
 {
     if !bytes.is_empty() && bytes[0] % 2 == 1 {
-        if bytes[0] as usize == 2 * bytes.len() + 1 { Some(&bytes[1..]) } else { None }
-    } else if bytes.len() >= 4 && u32::from_le_bytes([bytes[0], bytes[1], bytes[2], bytes[3]]) as usize == 4 * bytes.len() {
+        if bytes[0] as usize == 2 * bytes.len() + 1 {
+            Some(&bytes[1..])
+        } else {
+            None
+        }
+    } else if bytes.len() >= 4
+        && u32::from_le_bytes([bytes[0], bytes[1], bytes[2], bytes[3]]) as usize
+            == 4 * bytes.len()
+    {
         Some(&bytes[4..])
     } else {
         None
@@ -42,12 +49,34 @@ fn header(bytes: &[u8]) -> Option<(Head, &[u8])>
             return None;
         }
         let weight = u16::from_le_bytes([bytes[2], bytes[3]]);
-        let lift = if weight < 0x8000 { 0x8000 + weight } else { weight - 0x8000 };
-        Some((Head { minus: word >= 0x4000, dscale: word % 0x4000, lift }, &bytes[4..]))
+        let lift = if weight < 0x8000 {
+            0x8000 + weight
+        } else {
+            weight - 0x8000
+        };
+        Some((
+            Head {
+                minus: word >= 0x4000,
+                dscale: word % 0x4000,
+                lift,
+            },
+            &bytes[4..],
+        ))
     } else if word < 0xc000 {
         let seven = word % 128;
-        let lift = if seven < 64 { 0x8000 + seven } else { 0x7f80 + seven };
-        Some((Head { minus: word / 0x2000 % 2 == 1, dscale: word / 128 % 64, lift }, &bytes[2..]))
+        let lift = if seven < 64 {
+            0x8000 + seven
+        } else {
+            0x7f80 + seven
+        };
+        Some((
+            Head {
+                minus: word / 0x2000 % 2 == 1,
+                dscale: word / 128 % 64,
+                lift,
+            },
+            &bytes[2..],
+        ))
     } else {
         None
     }

@@ -57,7 +57,11 @@ pub fn open(bytes: &[u8]) -> Option<Opened<'_>>
         words,
         rest,
     };
-    Some(Opened { shape, count, start })
+    Some(Opened {
+        shape,
+        count,
+        start,
+    })
 }
 
 /// The one item of a root scalar.
@@ -70,7 +74,11 @@ pub fn lone(bytes: &[u8]) -> Option<Entry<'_>>
     match opened.shape {
         Shape::Scalar => {
             let (entry, end) = next_item(opened.start)?;
-            if end.rest.is_empty() { Some(entry) } else { None }
+            if end.rest.is_empty() {
+                Some(entry)
+            } else {
+                None
+            }
         }
         _ => None,
     }

@@ -21,6 +21,7 @@ pub struct Position<'a> {
 }
 
 const HAS_OFF: u32 = 0x8000_0000;
+
 const FIELD: u32 = 0x0fff_ffff;
 
 #[tactic(auto, unfolding(jsonb_layout::specs::Reading::length_of))]
@@ -29,7 +30,11 @@ fn piece_length(index: usize, at: usize, word: u32) -> Option<usize>
 {
     let field = (word % 0x1000_0000) as usize;
     if index % 32 == 0 {
-        if word >= HAS_OFF && at <= field { Some(field - at) } else { None }
+        if word >= HAS_OFF && at <= field {
+            Some(field - at)
+        } else {
+            None
+        }
     } else if word < HAS_OFF {
         Some(field)
     } else {
@@ -57,6 +62,11 @@ pub fn next_item(position: Position<'_>) -> Option<(Entry<'_>, Position<'_>)>
     }
     let (piece, rest) = position.rest.split_at(len);
     let kind = (word / 0x1000_0000 % 8) as u8;
-    let after = Position { index: position.index + 1, at: position.at + len, words, rest };
+    let after = Position {
+        index: position.index + 1,
+        at: position.at + len,
+        words,
+        rest,
+    };
     Some((Entry { kind, piece }, after))
 }

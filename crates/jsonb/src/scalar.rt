@@ -1,6 +1,6 @@
 //! The items that have no items in them.
 
-ghost use Rattle.std.specs.Prelude.{◌≡◌, ◌==◌, ◌<◌, ◌^◌, length, option_map, MatchOption, false};
+ghost use Rattle.std.specs.Prelude.{◌≡◌, ◌==◌, ◌<◌, ◌^◌, length, option_map, MatchOption, IfSome, ◌≤◌, false};
 ghost use Rattle.std.specs.List.{list_all};
 ghost use Rattle.std.specs.Str.{is_utf8};
 ghost use Rattle.jsonb_layout.specs.Reading.{unpadded, scalar_of};
@@ -41,7 +41,8 @@ fn all_zero(bytes: &[u8]) -> bool
 /// The bytes behind the zero bytes that bring a place to a multiple of four.
 #[tactic(auto, unfolding(jsonb_layout::specs::Reading::unpadded))]
 pub fn unpad(at: usize, piece: &[u8]) -> Option<&[u8]>
-    ensures { option_map (λ x. x.now) result ≡ unpadded at piece.now }
+    ensures read { option_map (λ x. x.now) result ≡ unpadded at piece.now }
+    ensures len { IfSome result (λ x. length x.now ≤ length piece.now) }
 {
     let pad = (4 - at % 4) % 4;
     if piece.len() < pad {

@@ -1,0 +1,13 @@
+use Rattle.std.proofs.Common.{◌≡◌, ℕ, List, Bool, true, false, refl}
+use Rattle.std.specs.Str.{IsUtf8, is_utf8}
+use Rattle.std.proofs.lemmas.Str.{is_utf8-from_IsUtf8, IsUtf8-from_is_utf8}
+
+pub text_true : (bs : List ℕ) → IsUtf8 bs → is_utf8 bs ≡ true
+text_true bs h = is_utf8-from_IsUtf8 bs h
+
+pub text_false : (bs : List ℕ) → (IsUtf8 bs → ⊥) → is_utf8 bs ≡ false
+text_false bs never = go (is_utf8 bs) (λ e. never (IsUtf8-from_is_utf8 bs e))
+  where
+    go : (b : Bool) → (b ≡ true → ⊥) → b ≡ false
+    go true h = absurd (h refl)
+    go false h = refl

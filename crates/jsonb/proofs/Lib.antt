@@ -4,3 +4,6 @@ pub mod FoundLaws
 pub mod KeyLoop
 pub mod FrameLaws
 pub mod StepLaws
+pub mod TreeCauses
+pub mod RootLaws
+pub mod OwnLaws

@@ -1,0 +1,83 @@
+//! The reader of a whole slice.
+
+ghost use Rattle.std.specs.Prelude.{◌≡◌, ◌≤◌, ◌⊎◌, ◌<◌, ◌^◌, length, Err};
+ghost use Rattle.json_model.specs.Nest.{nest};
+ghost use Rattle.json_model.specs.Tree.{Tree};
+ghost use Rattle.jsonb_layout.specs.Stands.{Stands};
+ghost use Rattle.jsonb_layout.specs.Trees.{read};
+ghost use Rattle.jsonb.specs.Reads.{Judges, Reads, lone_tree};
+ghost use Rattle.jsonb.specs.Root.{IsRead, read_tree};
+ghost use Rattle.jsonb.specs.Views.{item};
+
+use crate::error::JsonbError;
+use crate::found::Found;
+use crate::kind::Kind;
+use crate::node::JsonbNode;
+use crate::opening::lone;
+use crate::own::node_at;
+use crate::position::Entry;
+use crate::scalar::scalar;
+use crate::search::search;
+use std::alloc::Global;
+
+/// The `jsonb` representation of JSON.
+pub struct Jsonb;
+
+/// Whether what was found keeps a slice from being JSON.
+fn judge(found: Found) -> Result<(), JsonbError>
+    ensures { Judges found result }
+{
+    if found.not_text {
+        return Err(JsonbError::NotText);
+    }
+    if found.wide {
+        return Err(JsonbError::NumberTooWide);
+    }
+    Ok(())
+}
+
+/// The node of a root scalar's item.
+fn root_scalar(entry: Entry<'_>) -> Result<JsonbNode<'_>, JsonbError>
+    requires { length entry.piece.now < 2 ^ 28 }
+    ensures { Reads (lone_tree (item entry.entry)) result }
+{
+    let Some(found) = scalar(0, entry) else {
+        return Err(JsonbError::Malformed);
+    };
+    match judge(found) {
+        Ok(()) => Ok(node_at(0, entry)),
+        Err(error) => Err(error),
+    }
+}
+
+/// The node of a container.
+fn root_container(alloc: Global, bytes: &[u8]) -> Result<JsonbNode<'_>, JsonbError>
+    ensures { Reads (read bytes.now) result }
+{
+    let found = match search(alloc, bytes) {
+        Ok(found) => found,
+        Err(error) => return Err(error),
+    };
+    match judge(found) {
+        Ok(()) => Ok(JsonbNode {
+            kind: Kind::Container,
+            bytes,
+        }),
+        Err(error) => Err(error),
+    }
+}
+
+impl Jsonb {
+    /// Reads a whole slice, every part of it, in place. The node has the slice's tree.
+    ///
+    /// It looks at each byte a fixed number of times, and takes memory for the nesting alone.
+    pub fn root(alloc: Global, container: &[u8]) -> Result<JsonbNode<'_>, JsonbError>
+        ensures read { (result ≡ Err JsonbError.OutOfMemory) ⊎ IsRead container.now (read_tree result) }
+        ensures free { (t : Tree) → Stands container.now t → nest t ≤ 1 → result ≡ Err JsonbError.OutOfMemory → ⊥ }
+    {
+        let Some(entry) = lone(container) else {
+            return root_container(alloc, container);
+        };
+        root_scalar(entry)
+    }
+}

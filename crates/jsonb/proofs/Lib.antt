@@ -7,3 +7,5 @@ pub mod StepLaws
 pub mod TreeCauses
 pub mod RootLaws
 pub mod OwnLaws
+pub mod KindLaws
+pub mod MemberLaws

@@ -11,3 +11,6 @@ text_false bs never = go (is_utf8 bs) (λ e. never (IsUtf8-from_is_utf8 bs e))
     go : (b : Bool) → (b ≡ true → ⊥) → b ≡ false
     go true h = absurd (h refl)
     go false h = refl
+
+pub text_proved : (bs : List ℕ) → is_utf8 bs ≡ true → IsUtf8 bs
+text_proved bs e = IsUtf8-from_is_utf8 bs e

@@ -4,6 +4,7 @@ ghost use Rattle.std.specs.Prelude.{◌+◌, ◌<◌, ◌^◌, length};
 ghost use Rattle.jsonb.specs.Values.{array_at, IsJsonTree};
 ghost use Rattle.jsonb.specs.Views.{place};
 
+use crate::opening::{Shape, open};
 use crate::position::Position;
 
 /// An array in a slice: how many elements it has, and where they begin. It borrows the slice.
@@ -14,4 +15,44 @@ pub struct JsonbArray<'a> {
     ghost stands: { IsJsonTree (array_at count (place start)) },
     ghost index: { start.index + count < 2 ^ 60 },
     ghost at: { start.at + length start.rest.now < 2 ^ 28 },
+}
+
+impl<'a> JsonbArray<'a> {
+    ghost use Rattle.std.specs.Prelude.{◌≡◌};
+    ghost use Rattle.json_model.specs.Parts.{elements_of};
+    ghost use Rattle.jsonb.specs.Nodes.{array_tree};
+    ghost use Rattle.std.specs.Prelude.{option_map};
+    ghost use Rattle.json_model.specs.Parts.{if_array};
+    ghost use Rattle.jsonb_layout.specs.Trees.{read};
+    ghost use Rattle.jsonb.specs.Values.{or_null};
+
+    /// The array that a container is, if it is one.
+    pub(crate) fn of(bytes: &'a [u8]) -> Option<JsonbArray<'a>>
+        requires { IsJsonTree (read bytes.now) }
+        ensures { option_map array_tree result ≡ if_array (or_null (read bytes.now)) }
+    {
+        let Some(opened) = open(bytes) else {
+            unreachable!()
+        };
+        match opened.shape {
+            Shape::Array => {
+                return Some(JsonbArray {
+                    count: opened.count,
+                    start: opened.start,
+                });
+            }
+            Shape::Object => {
+                return None;
+            }
+            Shape::Scalar => unreachable!(),
+        }
+    }
+
+    /// The number of elements.
+    #[tactic(auto, using(crate::proofs::MemberLaws::array_length))]
+    pub fn len(&self) -> usize
+        ensures { result ≡ length (elements_of (array_tree self.now)) }
+    {
+        self.count
+    }
 }

@@ -14,6 +14,7 @@ mod numeric;
 mod object;
 mod opening;
 mod own;
+mod pass;
 mod position;
 mod root;
 mod scalar;

@@ -4,7 +4,10 @@ ghost use Rattle.std.specs.Prelude.{◌+◌, ◌<◌, ◌^◌, length};
 ghost use Rattle.jsonb.specs.Values.{members_at, AreJsonMembers};
 ghost use Rattle.jsonb.specs.Views.{place};
 
-use crate::position::Position;
+use crate::node::JsonbNode;
+use crate::own::node_at;
+use crate::position::{Position, next_item};
+use crate::scalar::text_of;
 
 /// The members that are left of an object, in key order: so many, with keys and values from two places on.
 #[derive(Drop)]
@@ -17,4 +20,35 @@ pub struct JsonbMembers<'a> {
     ghost key_at: { keys.at + length keys.rest.now < 2 ^ 28 },
     ghost value_index: { values.index + left < 2 ^ 60 },
     ghost value_at: { values.at + length values.rest.now < 2 ^ 28 },
+}
+
+impl<'a> Iterator for JsonbMembers<'a> {
+    type Item = (&'a str, JsonbNode<'a>);
+
+    ghost use Rattle.std.specs.Iterator.{YieldsFirstBy, item_count};
+    ghost use Rattle.jsonb.specs.Nodes.{members_left, member_pair};
+
+    ghost next_gives = { YieldsFirstBy member_pair members_left };
+
+    ghost remaining = { item_count members_left };
+
+    fn next(&mut self) -> Option<(&'a str, JsonbNode<'a>)> {
+        if self.left == 0 {
+            return None;
+        }
+        let Some((key, keys)) = next_item(self.keys) else {
+            unreachable!()
+        };
+        let Some((entry, values)) = next_item(self.values) else {
+            unreachable!()
+        };
+        let name = text_of(key.piece);
+        let node = node_at(self.values.at, entry);
+        *self = JsonbMembers {
+            left: self.left - 1,
+            keys,
+            values,
+        };
+        Some((name, node))
+    }
 }

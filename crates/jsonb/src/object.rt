@@ -4,6 +4,9 @@ ghost use Rattle.std.specs.Prelude.{◌+◌, ◌*◌, ◌<◌, ◌^◌, length};
 ghost use Rattle.jsonb.specs.Values.{object_at, IsJsonTree};
 ghost use Rattle.jsonb.specs.Views.{place};
 
+use crate::members::JsonbMembers;
+use crate::opening::{Shape, open};
+use crate::pass::pass;
 use crate::position::Position;
 
 /// An object in a slice: how many members it has, and where their keys begin. It borrows the slice.
@@ -14,4 +17,60 @@ pub struct JsonbObject<'a> {
     ghost stands: { IsJsonTree (object_at count (place start)) },
     ghost index: { start.index + 2 * count < 2 ^ 60 },
     ghost at: { start.at + length start.rest.now < 2 ^ 28 },
+}
+
+impl<'a> JsonbObject<'a> {
+    ghost use Rattle.std.specs.Prelude.{◌≡◌, map, true};
+    ghost use Rattle.json_model.specs.Keys.{rises};
+    ghost use Rattle.json_model.specs.Parts.{pairs_of};
+    ghost use Rattle.jsonb.specs.Nodes.{object_tree, members_left};
+    ghost use Rattle.std.specs.Prelude.{option_map};
+    ghost use Rattle.json_model.specs.Parts.{if_object};
+    ghost use Rattle.jsonb_layout.specs.Trees.{read};
+    ghost use Rattle.jsonb.specs.Values.{or_null};
+
+    /// The object that a container is, if it is one.
+    pub(crate) fn of(bytes: &'a [u8]) -> Option<JsonbObject<'a>>
+        requires { IsJsonTree (read bytes.now) }
+        ensures { option_map object_tree result ≡ if_object (or_null (read bytes.now)) }
+    {
+        let Some(opened) = open(bytes) else {
+            unreachable!()
+        };
+        match opened.shape {
+            Shape::Object => {
+                return Some(JsonbObject {
+                    count: opened.count,
+                    start: opened.start,
+                });
+            }
+            Shape::Array => {
+                return None;
+            }
+            Shape::Scalar => unreachable!(),
+        }
+    }
+
+    /// The number of members.
+    #[tactic(auto, using(crate::proofs::MemberLaws::object_length))]
+    pub fn len(&self) -> usize
+        ensures { result ≡ length (pairs_of (object_tree self.now)) }
+    {
+        self.count
+    }
+
+    /// The members, in key order.
+    pub fn members(&self) -> JsonbMembers<'a>
+        ensures pairs { members_left result ≡ pairs_of (object_tree self.now) }
+        ensures rise { rises (map (λ p. p.0) (pairs_of (object_tree self.now))) ≡ true }
+    {
+        let Some(values) = pass(self.count, self.start) else {
+            unreachable!()
+        };
+        JsonbMembers {
+            left: self.count,
+            keys: self.start,
+            values,
+        }
+    }
 }

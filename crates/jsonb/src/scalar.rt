@@ -1,6 +1,6 @@
 //! The items that have no items in them.
 
-ghost use Rattle.std.specs.Prelude.{◌≡◌, ◌==◌, ◌<◌, ◌^◌, length, option_map, MatchOption, IfSome, ◌≤◌, false};
+ghost use Rattle.std.specs.Prelude.{◌≡◌, ◌==◌, ◌<◌, ◌^◌, length, option_map, IfSome, ◌≤◌, true};
 ghost use Rattle.std.specs.List.{list_all};
 ghost use Rattle.std.specs.Str.{is_utf8};
 ghost use Rattle.jsonb_layout.specs.Reading.{unpadded, scalar_of};
@@ -11,17 +11,17 @@ use crate::found::Found;
 use crate::numeric::narrow_number;
 use crate::position::Entry;
 
-/// The text that the bytes are.
-#[tactic(auto, using(crate::proofs::Texts::text_true, crate::proofs::Texts::text_false))]
-pub fn text(bytes: &[u8]) -> Option<&str>
-    ensures { MatchOption result (is_utf8 bytes.now ≡ false) (λ s. s.now ≡ bytes.now) }
+/// The text that the bytes are, which were read before.
+#[tactic(auto, using(crate::proofs::Texts::text_proved))]
+pub fn text_of(bytes: &[u8]) -> &str
+    requires { is_utf8 bytes.now ≡ true }
+    ensures { result.now ≡ bytes.now }
 {
-    match str::from_utf8(bytes) {
-        Ok(text) => Some(text),
-        Err(_) => None,
-    }
+    // SAFETY: the bytes are UTF-8, which is required, and proved at each call.
+    unsafe { str::from_utf8_unchecked(bytes) }
 }
 
+/// Whether the bytes are UTF-8.
 #[tactic(auto, using(crate::proofs::Texts::text_true, crate::proofs::Texts::text_false))]
 pub fn is_text(bytes: &[u8]) -> bool
     ensures { result ≡ is_utf8 bytes.now }

@@ -1,0 +1,112 @@
+-- What the tree of bytes of a kind has, and lacks.
+use Rattle.std.proofs.Common.{◌≡◌, ℕ, List, Bool, true, false, Option, Some, None, refl, sym, ap, subst, ◌∙◌, ◌⊎◌, inl, inr}
+use Rattle.std.specs.Prelude.{not, ◌&&◌}
+use Rattle.std.specs.Str.{is_utf8}
+use Rattle.json_model.specs.Decimal.{Decimal}
+use Rattle.json_model.specs.Tree.{Scalar, null, boolean, number, string, Tree, scalar, array, object, Elements, Members}
+use Rattle.json_model.specs.Parts.{as_string, as_boolean, is_null, is_number, is_string, if_object, if_array, if_number}
+use Rattle.jsonb_layout.specs.Reading.{◌>>=◌, numeric_of}
+use Rattle.jsonb_layout.specs.Trees.{read}
+use Rattle.jsonb_layout.proofs.Shapes.{read_no_scalar}
+use Rattle.jsonb.specs.Found.{text_found}
+use Rattle.jsonb.specs.Values.{value_of, or_null, is_clean, IsJsonTree}
+use Rattle.jsonb.specs.declared.kind.Kind.{Kind}
+use Rattle.jsonb.specs.declared.kind.Kind.TheVariants as kinds
+
+-- trees of a kind
+abbrev pub TreeIs : Kind → Tree → Type 0
+TreeIs kinds.String t = (s : List ℕ) × (t ≡ scalar (string s))
+TreeIs kinds.Number t = (d : Decimal) × (t ≡ scalar (number d))
+TreeIs kinds.False t = t ≡ scalar (boolean false)
+TreeIs kinds.True t = t ≡ scalar (boolean true)
+TreeIs kinds.Null t = t ≡ scalar null
+TreeIs kinds.Container t = ((ts : Elements) × (t ≡ array ts)) ⊎ ((ms : Members) × (t ≡ object ms))
+
+pub tree_is : (k : Kind) (b : List ℕ) → IsJsonTree (value_of k b) → TreeIs k (or_null (value_of k b))
+tree_is kinds.String b h = (b, refl)
+tree_is kinds.Number b h = go (numeric_of b) h
+  where
+    go : (r : Option Decimal) → IsJsonTree (r >>= λ d. Some (scalar (number d))) → TreeIs kinds.Number (or_null (r >>= λ d. Some (scalar (number d))))
+    go None h = absurd cc
+    go (Some d) h = (d, refl)
+tree_is kinds.False b h = refl
+tree_is kinds.True b h = refl
+tree_is kinds.Null b h = refl
+tree_is kinds.Container b h = go (read b) (read_no_scalar b) h
+  where
+    go : (r : Option Tree) → ((s : Scalar) → r ≡ Some (scalar s) → ⊥) → IsJsonTree r → TreeIs kinds.Container (or_null r)
+    go None never h = absurd cc
+    go (Some (scalar s)) never h = absurd (never s refl)
+    go (Some (array ts)) never h = inl (ts, refl)
+    go (Some (object ms)) never h = inr (ms, refl)
+
+-- a reading that gives x for each tree of the kind gives x
+by_kind : {A : Type 0} (f : Tree → A) (x : A) (k : Kind) (t : Tree) → TreeIs k t
+    → (k ≡ kinds.String → (s : List ℕ) → x ≡ f (scalar (string s)))
+    → (k ≡ kinds.Number → (d : Decimal) → x ≡ f (scalar (number d)))
+    → (k ≡ kinds.False → x ≡ f (scalar (boolean false)))
+    → (k ≡ kinds.True → x ≡ f (scalar (boolean true)))
+    → (k ≡ kinds.Null → x ≡ f (scalar null))
+    → (k ≡ kinds.Container → (ts : Elements) → x ≡ f (array ts))
+    → (k ≡ kinds.Container → (ms : Members) → x ≡ f (object ms))
+    → x ≡ f t
+by_kind f x kinds.String t h s n a b c d e = s refl h.0 ∙ ap f (sym h.1)
+by_kind f x kinds.Number t h s n a b c d e = n refl h.0 ∙ ap f (sym h.1)
+by_kind f x kinds.False t h s n a b c d e = a refl ∙ ap f (sym h)
+by_kind f x kinds.True t h s n a b c d e = b refl ∙ ap f (sym h)
+by_kind f x kinds.Null t h s n a b c d e = c refl ∙ ap f (sym h)
+by_kind f x kinds.Container t (inl h) s n a b c d e = d refl h.0 ∙ ap f (sym h.1)
+by_kind f x kinds.Container t (inr h) s n a b c d e = e refl h.0 ∙ ap f (sym h.1)
+
+pub text_clean : (b : List ℕ) → is_clean (text_found b) ≡ true → is_utf8 b ≡ true
+text_clean b h = go (is_utf8 b) h
+  where
+    go : (c : Bool) → (not (not c) && not false) ≡ true → c ≡ true
+    go true h = refl
+    go false h = absurd cc
+
+module _ (k : Kind) (b : List ℕ) (stands : IsJsonTree (value_of k b)) where
+  is : TreeIs k (or_null (value_of k b))
+  is = tree_is k b stands
+
+  pub no_object : (k ≡ kinds.Container → ⊥) → None ≡ if_object (or_null (value_of k b))
+  no_object h = by_kind if_object None k _ is (λ _ _. refl) (λ _ _. refl) (λ _. refl) (λ _. refl) (λ _. refl) (λ e _. absurd (h e)) (λ e _. absurd (h e))
+
+  pub no_array : (k ≡ kinds.Container → ⊥) → None ≡ if_array (or_null (value_of k b))
+  no_array h = by_kind if_array None k _ is (λ _ _. refl) (λ _ _. refl) (λ _. refl) (λ _. refl) (λ _. refl) (λ e _. absurd (h e)) (λ e _. absurd (h e))
+
+  pub no_number : (k ≡ kinds.Number → ⊥) → None ≡ if_number (or_null (value_of k b))
+  no_number h = by_kind if_number None k _ is (λ _ _. refl) (λ e _. absurd (h e)) (λ _. refl) (λ _. refl) (λ _. refl) (λ _ _. refl) (λ _ _. refl)
+
+  pub no_string : (k ≡ kinds.String → ⊥) → None ≡ as_string (or_null (value_of k b))
+  no_string h = by_kind as_string None k _ is (λ e _. absurd (h e)) (λ _ _. refl) (λ _. refl) (λ _. refl) (λ _. refl) (λ _ _. refl) (λ _ _. refl)
+
+  pub no_boolean : (k ≡ kinds.True → ⊥) → (k ≡ kinds.False → ⊥) → None ≡ as_boolean (or_null (value_of k b))
+  no_boolean h g = by_kind as_boolean None k _ is (λ _ _. refl) (λ _ _. refl) (λ e. absurd (g e)) (λ e. absurd (h e)) (λ _. refl) (λ _ _. refl) (λ _ _. refl)
+
+  pub not_null : (k ≡ kinds.Null → ⊥) → false ≡ is_null (or_null (value_of k b))
+  not_null h = by_kind is_null false k _ is (λ _ _. refl) (λ _ _. refl) (λ _. refl) (λ _. refl) (λ e. absurd (h e)) (λ _ _. refl) (λ _ _. refl)
+
+  pub not_number : (k ≡ kinds.Number → ⊥) → false ≡ is_number (or_null (value_of k b))
+  not_number h = by_kind is_number false k _ is (λ _ _. refl) (λ e _. absurd (h e)) (λ _. refl) (λ _. refl) (λ _. refl) (λ _ _. refl) (λ _ _. refl)
+
+  pub not_string : (k ≡ kinds.String → ⊥) → false ≡ is_string (or_null (value_of k b))
+  not_string h = by_kind is_string false k _ is (λ e _. absurd (h e)) (λ _ _. refl) (λ _. refl) (λ _. refl) (λ _. refl) (λ _ _. refl) (λ _ _. refl)
+
+  pub container_stands : k ≡ kinds.Container → IsJsonTree (read b)
+  container_stands e = subst (λ (j : Kind). IsJsonTree (value_of j b)) e stands
+
+  pub null_is : k ≡ kinds.Null → true ≡ is_null (or_null (value_of k b))
+  null_is e = ap is_null (sym (ap (λ (j : Kind). or_null (value_of j b)) e))
+
+  pub string_is : k ≡ kinds.String → true ≡ is_string (or_null (value_of k b))
+  string_is e = ap is_string (sym (ap (λ (j : Kind). or_null (value_of j b)) e))
+
+  pub string_text : k ≡ kinds.String → is_utf8 b ≡ true
+  string_text e = text_clean b (subst (λ (j : Kind). IsJsonTree (value_of j b)) e stands)
+
+  pub number_is : k ≡ kinds.Number → true ≡ is_number (or_null (value_of k b))
+  number_is e = go (or_null (value_of k b)) (subst (λ (j : Kind). TreeIs j (or_null (value_of k b))) e is)
+    where
+      go : (t : Tree) → TreeIs kinds.Number t → true ≡ is_number t
+      go t h = ap is_number (sym h.1)

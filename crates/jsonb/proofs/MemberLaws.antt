@@ -1,0 +1,326 @@
+-- Walking over the members of an object.
+use Rattle.std.proofs.Common.{◌≡◌, ℕ, zero, suc, ◌+◌, ◌-◌, ◌<◌, ◌≤◌, Bool, true, eqb, List, [], ◌∷◌, length, map, Option, Some, None, refl, sym, ap, subst, ◌∙◌, arith}
+use Rattle.std.specs.Prelude.{option_map, ◌&&◌, not, ◌||◌, false}
+use Rattle.std.specs.Str.{is_utf8}
+use Rattle.json_model.specs.Keys.{rises}
+use Rattle.json_model.specs.Parts.{pairs_in, pairs_of, trees_in, elements_of, if_object, if_array}
+use Rattle.json_model.specs.Tree.{Tree, array, object, Elements, no_elements, element, Members}
+use Rattle.jsonb_layout.specs.Layout.{Item, Form, list, pairs, lone}
+use Rattle.jsonb_layout.specs.Reading.{◌>>=◌, only_if, Place, item_at, follows, keys_at, opened, ended}
+use Rattle.jsonb_layout.specs.Trees.{elements_by, members, held_by, read, item_tree}
+use Rattle.jsonb_layout.proofs.Containers.{count}
+use Rattle.jsonb_layout.proofs.Openings.{ended_is}
+use Rattle.jsonb_layout.proofs.Shapes.{elements_count, keys_count, keys_rise}
+use Rattle.jsonb_layout.proofs.Tools.{guard, bind_some, some_is}
+use Rattle.jsonb_layout.proofs.Unrolled.{read_unroll}
+use Rattle.jsonb.specs.Found.{both, text_found, tree_found, members_found}
+use Rattle.jsonb.specs.Values.{or_null, is_clean, IsJsonTree, array_at, object_at, names_at, members_at, AreJsonMembers, or_no_pairs, pairs_at, skip}
+use Rattle.jsonb.specs.declared.found.Found.{Found}
+use Rattle.jsonb.proofs.KindLaws.{text_clean}
+
+abbrev some : Tree → Option Tree
+some t = Some t
+
+-- ---- past items
+
+module _ (count i : ℕ) (p : Place) (total : Option Place) (so_far : skip (count - i) p ≡ total) where
+  count_down : i < count → count - i ≡ suc (count - (i + 1))
+  count_down lt = omega arith
+
+  pub skip_none : i < count → None ≡ item_at p → None ≡ total
+  unfolding skip
+  skip_none lt h = let one : skip (count - i) p ≡ None = rw (count_down lt, ← h) refl in sym one ∙ so_far
+
+  pub skip_on : (x : Item) (q : Place) → i < count → Some (x, q) ≡ item_at p → skip (count - (i + 1)) q ≡ total
+  unfolding skip
+  skip_on x q lt h = let one : skip (count - i) p ≡ skip (count - (i + 1)) q = rw (count_down lt, ← h) refl in sym one ∙ so_far
+
+  pub skip_done : count ≤ i → Some p ≡ total
+  unfolding skip
+  skip_done le = let k : count - i ≡ 0 = omega arith in let one : skip (count - i) p ≡ Some p = rw k refl in sym one ∙ so_far
+
+-- ---- a container's tree
+
+module _ (b : List ℕ) (json : IsJsonTree (read b)) where
+  by_opened : (o : Option (Form × ℕ × Place)) → o ≡ opened b → read b ≡ (o >>= λ o. held_by read o.0 o.1 o.2)
+  by_opened o e = read_unroll b ∙ ap (λ (o : Option (Form × ℕ × Place)). o >>= λ o. held_by read o.0 o.1 o.2) (sym e)
+
+  none_never : read b ≡ None → ⊥
+  none_never e = let h : IsJsonTree None = subst IsJsonTree e json in cc
+
+  pub opens : None ≡ opened b → ⊥
+  opens e = none_never (by_opened None e)
+
+  pub not_lone : (c : ℕ) (p : Place) → Some (lone, c, p) ≡ opened b → ⊥
+  not_lone c p e = none_never (by_opened (Some (lone, c, p)) e)
+
+  there : (r : Option Tree) → IsJsonTree r → (t : Tree) × (r ≡ Some t)
+  there None h = absurd cc
+  there (Some t) h = (t, refl)
+
+  -- an array's tree is that of its elements
+  pub array_read : (c : ℕ) (p : Place) → Some (list, c, p) ≡ opened b → (ts : Elements) × (read b ≡ Some (array ts)) × (array_at c p ≡ read b)
+  array_read c p e =
+      let t = there (read b) json in
+      let h = sym (by_opened (Some (list, c, p)) e) ∙ t.1 in
+      let a = bind_some (elements_by read c p) (λ r. ended r.1 (array r.0)) t.0 h in
+      let d = ended_is a.0.1 (array a.0.0) t.0 a.2 in
+      let is : read b ≡ Some (array a.0.0) = t.1 ∙ ap some (sym d.1) in
+      (a.0.0, is, ap (λ (o : Option (Elements × Place)). o >>= λ r. some (array r.0)) a.1 ∙ sym is)
+
+  -- an object's tree is that of its keys and values
+  pub object_read : (c : ℕ) (p : Place) → Some (pairs, c, p) ≡ opened b → (ms : Members) × (read b ≡ Some (object ms)) × (object_at c p ≡ read b)
+  object_read c p e =
+      let t = there (read b) json in
+      let h = sym (by_opened (Some (pairs, c, p)) e) ∙ t.1 in
+      let k = bind_some (keys_at c None p) (λ k. elements_by read c k.1 >>= λ r. ended r.1 (object (members k.0 r.0))) t.0 h in
+      let a = bind_some (elements_by read c k.0.1) (λ r. ended r.1 (object (members k.0.0 r.0))) t.0 k.2 in
+      let d = ended_is a.0.1 (object (members k.0.0 a.0.0)) t.0 a.2 in
+      let is : read b ≡ Some (object (members k.0.0 a.0.0)) = t.1 ∙ ap some (sym d.1) in (
+        members k.0.0 a.0.0,
+        is,
+        ap (λ (o : Option (List (List ℕ) × Place)). o >>= λ k. elements_by read c k.1 >>= λ r. some (object (members k.0 r.0))) k.1
+            ∙ ap (λ (o : Option (Elements × Place)). o >>= λ r. some (object (members k.0.0 r.0))) a.1
+            ∙ sym is,
+      )
+
+-- ---- what was opened
+
+abbrev some_list : List (List ℕ × Tree) → Option (List (List ℕ × Tree))
+some_list l = Some l
+
+module _ (b : List ℕ) (json : IsJsonTree (read b)) (c : ℕ) (p : Place) where
+  pub array_stands : Some (list, c, p) ≡ opened b → IsJsonTree (array_at c p)
+  array_stands e = subst IsJsonTree (sym (array_read b json c p e).2) json
+
+  pub array_is : Some (list, c, p) ≡ opened b → Some (or_null (array_at c p)) ≡ if_array (or_null (read b))
+  array_is e =
+      let a = array_read b json c p e in
+      ap (λ (r : Option Tree). some (or_null r)) (a.2 ∙ a.1) ∙ ap (λ (r : Option Tree). if_array (or_null r)) (sym a.1)
+
+  pub array_no_object : Some (list, c, p) ≡ opened b → None ≡ if_object (or_null (read b))
+  array_no_object e = ap (λ (r : Option Tree). if_object (or_null r)) (sym (array_read b json c p e).1)
+
+  pub object_stands : Some (pairs, c, p) ≡ opened b → IsJsonTree (object_at c p)
+  object_stands e = subst IsJsonTree (sym (object_read b json c p e).2) json
+
+  pub object_is : Some (pairs, c, p) ≡ opened b → Some (or_null (object_at c p)) ≡ if_object (or_null (read b))
+  object_is e =
+      let o = object_read b json c p e in
+      ap (λ (r : Option Tree). some (or_null r)) (o.2 ∙ o.1) ∙ ap (λ (r : Option Tree). if_object (or_null r)) (sym o.1)
+
+  pub object_no_array : Some (pairs, c, p) ≡ opened b → None ≡ if_array (or_null (read b))
+  object_no_array e = ap (λ (r : Option Tree). if_array (or_null r)) (sym (object_read b json c p e).1)
+
+-- ---- lengths
+
+length_trees : (ts : Elements) → length (trees_in ts) ≡ count ts
+length_trees no_elements = refl
+length_trees (element t ts) = ap suc (length_trees ts)
+
+pub array_length : (c : ℕ) (p : Place) → IsJsonTree (array_at c p) → c ≡ length (elements_of (or_null (array_at c p)))
+array_length c p h = go (elements_by read c p) refl h
+  where
+    go : (r : Option (Elements × Place)) → elements_by read c p ≡ r → IsJsonTree (r >>= λ r. some (array r.0)) → c ≡ length (elements_of (or_null (r >>= λ r. some (array r.0))))
+    go None e h = absurd cc
+    go (Some r) e h = sym (length_trees r.0 ∙ elements_count read c p r e)
+
+-- what an object of so many members, whose keys begin at a place, is made of
+pub record Holds (c : ℕ) (p : Place) : Type 0 where
+  pub names : List (List ℕ)
+  pub behind : Place
+  pub trees : Elements
+  pub end : Place
+  pub keys_are : keys_at c None p ≡ Some (names, behind)
+  pub values_are : elements_by read c behind ≡ Some (trees, end)
+  pub tree : object_at c p ≡ Some (object (members names trees))
+  pub counts : length names ≡ count trees
+
+pub holds : (c : ℕ) (p : Place) → IsJsonTree (object_at c p) → Holds c p
+holds c p h = by_keys (keys_at c None p) refl h
+  where
+    by_values : (k : List (List ℕ) × Place) → keys_at c None p ≡ Some k → (r : Option (Elements × Place)) → elements_by read c k.1 ≡ r → IsJsonTree (r >>= λ r. some (object (members k.0 r.0))) → Holds c p
+    by_values k e None f h = absurd cc
+    by_values k e (Some r) f h = record {
+      names = k.0;
+      behind = k.1;
+      trees = r.0;
+      end = r.1;
+      keys_are = e;
+      values_are = f;
+      tree = ap (λ (o : Option (List (List ℕ) × Place)). o >>= λ k. elements_by read c k.1 >>= λ r. some (object (members k.0 r.0))) e ∙ ap (λ (o : Option (Elements × Place)). o >>= λ r. some (object (members k.0 r.0))) f;
+      counts = keys_count c p k e ∙ sym (elements_count read c k.1 r f);
+    }
+
+    by_keys : (k : Option (List (List ℕ) × Place)) → keys_at c None p ≡ k → IsJsonTree (k >>= λ k. elements_by read c k.1 >>= λ r. some (object (members k.0 r.0))) → Holds c p
+    by_keys None e h = absurd cc
+    by_keys (Some k) e h = by_values k e (elements_by read c k.1) refl h
+
+length_pairs : (ks : List (List ℕ)) (ts : Elements) → length ks ≡ count ts → length (pairs_in (members ks ts)) ≡ length ks
+length_pairs [] ts e = refl
+length_pairs (k ∷ ks) no_elements e = absurd cc
+length_pairs (k ∷ ks) (element t ts) e = ap suc (length_pairs ks ts (omega arith))
+
+names_of_pairs : (ks : List (List ℕ)) (ts : Elements) → length ks ≡ count ts → map (λ (q : List ℕ × Tree). q.0) (pairs_in (members ks ts)) ≡ ks
+names_of_pairs [] ts e = refl
+names_of_pairs (k ∷ ks) no_elements e = absurd cc
+names_of_pairs (k ∷ ks) (element t ts) e = ap (λ (l : List (List ℕ)). k ∷ l) (names_of_pairs ks ts (omega arith))
+
+module _ (c : ℕ) (p : Place) (json : IsJsonTree (object_at c p)) where
+  pairs_are : pairs_of (or_null (object_at c p)) ≡ pairs_in (members (holds c p json).names (holds c p json).trees)
+  pairs_are = ap (λ (r : Option Tree). pairs_of (or_null r)) (holds c p json).tree
+
+  pub object_length : c ≡ length (pairs_of (or_null (object_at c p)))
+  object_length =
+      let o = holds c p json in
+      sym (ap length pairs_are ∙ length_pairs o.names o.trees o.counts ∙ keys_count c p (o.names, o.behind) o.keys_are)
+
+  pub object_rises : rises (map (λ (q : List ℕ × Tree). q.0) (pairs_of (or_null (object_at c p)))) ≡ true
+  object_rises =
+      let o = holds c p json in
+      ap (λ (l : List (List ℕ × Tree)). rises (map (λ (q : List ℕ × Tree). q.0) l)) pairs_are ∙ ap rises (names_of_pairs o.names o.trees o.counts) ∙ keys_rise c p (o.names, o.behind) o.keys_are
+
+-- ---- keys that are read are names, and end where so many items end
+
+keys_names : (n : ℕ) (before : Option (List ℕ)) (p : Place) (r : List (List ℕ) × Place) → keys_at n before p ≡ Some r → (names_at n p ≡ Some r) × (skip n p ≡ Some r.1)
+unfolding keys_at names_at skip
+keys_names zero before p r e = (e, ap (option_map (λ (y : List (List ℕ) × Place). y.1)) e)
+keys_names (suc n) before p r e =
+    let a = bind_some (item_at p) (λ x. only_if (eqb x.0.kind 0 && follows before x.0.piece) (keys_at n (Some x.0.piece) x.1) >>= λ ks. Some (x.0.piece ∷ ks.0, ks.1)) r e in
+    let b = bind_some (only_if (eqb a.0.0.kind 0 && follows before a.0.0.piece) (keys_at n (Some a.0.0.piece) a.0.1)) (λ ks. Some (a.0.0.piece ∷ ks.0, ks.1)) r a.2 in
+    let g = guard (eqb a.0.0.kind 0 && follows before a.0.0.piece) (keys_at n (Some a.0.0.piece) a.0.1) b.0 b.1 in
+    let more = keys_names n (Some a.0.0.piece) a.0.1 b.0 g.1 in
+    put n p r a.0.0 a.0.1 b.0 a.1 more.0 more.1 b.2
+  where
+    put : (n : ℕ) (p : Place) (r : List (List ℕ) × Place) (x : Item) (q : Place) (ks : List (List ℕ) × Place) → item_at p ≡ Some (x, q) → names_at n q ≡ Some ks → skip n q ≡ Some ks.1 → ◌≡◌ {A = Option (List (List ℕ) × Place)} (Some (x.piece ∷ ks.0, ks.1)) (Some r) → (names_at (suc n) p ≡ Some r) × (skip (suc n) p ≡ Some r.1)
+    put n p r x q ks e f g h = (rw (e, f) h, rw (e, g) (ap (option_map (λ (y : List (List ℕ) × Place). y.1)) h))
+
+module _ (c : ℕ) (p : Place) (json : IsJsonTree (object_at c p)) where
+  pub passes : None ≡ skip c p → ⊥
+  passes e =
+      let o = holds c p json in
+      let h : ◌≡◌ {A = Option Place} None (Some o.behind) = e ∙ (keys_names c None p (o.names, o.behind) o.keys_are).1 in cc
+
+  module _ (q : Place) (e : Some q ≡ skip c p) where
+    members_are : members_at c p q ≡ Some (members (holds c p json).names (holds c p json).trees)
+    members_are =
+        let o = holds c p json in
+        let n = keys_names c None p (o.names, o.behind) o.keys_are in
+        let same : o.behind ≡ q = some_is o.behind q (sym n.1 ∙ sym e) in
+        ap (λ (r : Option (List (List ℕ) × Place)). r >>= λ k. elements_by read c q >>= λ r. let o : Option Members = Some (members k.0 r.0) in o) n.0
+        ∙ ap (λ (r : Option (Elements × Place)). r >>= λ r. let m : Option Members = Some (members o.names r.0) in m) (ap (elements_by read c) (sym same) ∙ o.values_are)
+
+    pub members_stand : AreJsonMembers (members_at c p q)
+    members_stand =
+        let o = holds c p json in
+        let clean : is_clean (tree_found (object (members o.names o.trees))) ≡ true = subst IsJsonTree o.tree json in
+        subst AreJsonMembers (sym members_are) clean
+
+    pub members_pairs : pairs_at c p q ≡ pairs_of (or_null (object_at c p))
+    members_pairs = ap (λ (r : Option Members). or_none r) members_are ∙ sym (pairs_are c p json)
+      where
+        or_none : Option Members → List (List ℕ × Tree)
+        or_none r = or_no_pairs (r >>= λ ms. some_list (pairs_in ms))
+
+-- ---- the next member
+
+both_clean : (f g : Found) → is_clean (both f g) ≡ true → (is_clean f ≡ true) × (is_clean g ≡ true)
+both_clean f g h = go f.not_text f.wide g.not_text g.wide h
+  where
+    go : (a b c d : Bool) → (not (a || c) && not (b || d)) ≡ true → ((not a && not b) ≡ true) × ((not c && not d) ≡ true)
+    go false false false false h = (refl, refl)
+    go false false false true h = absurd cc
+    go false false true d h = absurd cc
+    go false true false d h = absurd cc
+    go false true true d h = absurd cc
+    go true b c d h = absurd cc
+
+less_one : (n : ℕ) → 0 < n → suc (n - 1) ≡ n
+less_one n h = omega arith
+
+pub record NextMember (n : ℕ) (p q : Place) (x y : Item) (p' q' : Place) : Type 0 where
+  pub name : is_utf8 x.piece ≡ true
+  pub value : IsJsonTree (item_tree q.at y)
+  pub more : AreJsonMembers (members_at n p' q')
+  pub pairs : pairs_at (suc n) p q ≡ (x.piece, or_null (item_tree q.at y)) ∷ pairs_at n p' q'
+
+names_none : (n : ℕ) (p : Place) → item_at p ≡ None → names_at (suc n) p ≡ None
+unfolding names_at
+names_none n p e = rw e refl
+
+names_some : (n : ℕ) (p p' : Place) (x : Item) → item_at p ≡ Some (x, p') → names_at (suc n) p ≡ (names_at n p' >>= λ ks. Some (x.piece ∷ ks.0, ks.1))
+unfolding names_at
+names_some n p p' x e = rw e refl
+
+values_none : (n : ℕ) (q : Place) → item_at q ≡ None → elements_by read (suc n) q ≡ None
+unfolding elements_by
+values_none n q e = rw e refl
+
+values_some : (n : ℕ) (q q' : Place) (y : Item) → item_at q ≡ Some (y, q') → elements_by read (suc n) q ≡ (item_tree q.at y >>= λ t. elements_by read n q' >>= λ ts. Some (element t ts.0, ts.1))
+unfolding elements_by
+values_some n q q' y e = rw e refl
+
+bind_none : {A B : Type 0} (r : Option A) → (r >>= λ _. let n : Option B = None in n) ≡ None
+bind_none None = refl
+bind_none (Some x) = refl
+
+abbrev both_of : Option (List (List ℕ) × Place) → Option (Elements × Place) → Option Members
+both_of a b = a >>= λ k. b >>= λ r. Some (members k.0 r.0)
+
+both_none : (a : Option (List (List ℕ) × Place)) → both_of a None ≡ None
+both_none None = refl
+both_none (Some k) = refl
+
+next_member : (n : ℕ) (p p' q q' : Place) (x y : Item) → item_at p ≡ Some (x, p') → item_at q ≡ Some (y, q') → AreJsonMembers (members_at (suc n) p q) → NextMember n p q x y p' q'
+next_member n p p' q q' x y e f json = go (names_at n p') refl (item_tree q.at y) refl (elements_by read n q') refl (subst AreJsonMembers made json)
+  where
+    made : members_at (suc n) p q ≡ both_of (names_at n p' >>= λ ks. Some (x.piece ∷ ks.0, ks.1)) (item_tree q.at y >>= λ t. elements_by read n q' >>= λ ts. Some (element t ts.0, ts.1))
+    made = ap (λ (a : Option (List (List ℕ) × Place)). both_of a (elements_by read (suc n) q)) (names_some n p p' x e) ∙ ap (both_of (names_at n p' >>= λ ks. Some (x.piece ∷ ks.0, ks.1))) (values_some n q q' y f)
+
+    go : (a : Option (List (List ℕ) × Place)) → names_at n p' ≡ a → (t : Option Tree) → item_tree q.at y ≡ t → (r : Option (Elements × Place)) → elements_by read n q' ≡ r
+        → AreJsonMembers (both_of (a >>= λ ks. Some (x.piece ∷ ks.0, ks.1)) (t >>= λ t. r >>= λ ts. Some (element t ts.0, ts.1))) → NextMember n p q x y p' q'
+    go None ea t et r er h = absurd cc
+    go (Some ks) ea None et r er h = absurd cc
+    go (Some ks) ea (Some t) et None er h = absurd cc
+    go (Some ks) ea (Some t) et (Some ts) er h =
+        let parts = both_clean (both (text_found x.piece) (tree_found t)) (members_found (members ks.0 ts.0)) h in
+        let first = both_clean (text_found x.piece) (tree_found t) parts.0 in
+        let rest : members_at n p' q' ≡ Some (members ks.0 ts.0) = ap (λ (a : Option (List (List ℕ) × Place)). both_of a (elements_by read n q')) ea ∙ ap (both_of (Some ks)) er in
+        record {
+          name = text_clean x.piece first.0;
+          value = subst IsJsonTree (sym et) first.1;
+          more = subst AreJsonMembers (sym rest) parts.1;
+          pairs =
+              ap or_none made
+              ∙ ap (λ (a : Option (List (List ℕ) × Place)). or_none (both_of (a >>= λ ks. Some (x.piece ∷ ks.0, ks.1)) (item_tree q.at y >>= λ t. elements_by read n q' >>= λ ts. Some (element t ts.0, ts.1)))) ea
+              ∙ ap (λ (o : Option Tree). or_none (both_of (Some (x.piece ∷ ks.0, ks.1)) (o >>= λ t. elements_by read n q' >>= λ ts. Some (element t ts.0, ts.1)))) et
+              ∙ ap (λ (o : Option (Elements × Place)). or_none (both_of (Some (x.piece ∷ ks.0, ks.1)) (o >>= λ ts. Some (element t ts.0, ts.1)))) er
+              ∙ ap (λ (o : Option Tree). (x.piece, or_null o) ∷ pairs_in (members ks.0 ts.0)) (sym et)
+              ∙ ap (λ (o : Option Members). (x.piece, or_null (item_tree q.at y)) ∷ or_none o) (sym rest);
+        }
+      where
+        or_none : Option Members → List (List ℕ × Tree)
+        or_none r = or_no_pairs (r >>= λ ms. some_list (pairs_in ms))
+
+module _ (n : ℕ) (p q : Place) (some_left : 0 < n) (json : AreJsonMembers (members_at n p q)) where
+  full : AreJsonMembers (members_at (suc (n - 1)) p q)
+  full = subst (λ (k : ℕ). AreJsonMembers (members_at k p q)) (sym (less_one n some_left)) json
+
+  pub keys_go_on : None ≡ item_at p → ⊥
+  keys_go_on e =
+      let h : AreJsonMembers None = subst AreJsonMembers (ap (λ (a : Option (List (List ℕ) × Place)). both_of a (elements_by read (suc (n - 1)) q)) (names_none (n - 1) p (sym e))) full in cc
+
+  pub values_go_on : None ≡ item_at q → ⊥
+  values_go_on e =
+      let h : AreJsonMembers None = subst AreJsonMembers (ap (both_of (names_at (suc (n - 1)) p)) (values_none (n - 1) q (sym e)) ∙ both_none (names_at (suc (n - 1)) p)) full in cc
+
+  module _ (x y : Item) (p' q' : Place) (e : Some (x, p') ≡ item_at p) (f : Some (y, q') ≡ item_at q) where
+    pub member_is : NextMember (n - 1) p q x y p' q'
+    member_is = next_member (n - 1) p p' q q' x y (sym e) (sym f) full
+
+    pub member_pairs : pairs_at n p q ≡ (x.piece, or_null (item_tree q.at y)) ∷ pairs_at (n - 1) p' q'
+    member_pairs = ap (λ (k : ℕ). pairs_at k p q) (sym (less_one n some_left)) ∙ member_is.pairs
+
+pub no_pairs : (n : ℕ) (p q : Place) → n ≡ 0 → pairs_at n p q ≡ []
+unfolding names_at elements_by
+no_pairs n p q e = ap (λ (k : ℕ). pairs_at k p q) e

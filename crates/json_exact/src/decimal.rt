@@ -1,0 +1,137 @@
+//! `Decimal`: an exact decimal of at most 38 digits.
+
+ghost use Rattle.std.specs.Prelude.{ℕ, ◌+◌, ◌*◌, ◌^◌, ◌≤◌, ◌<◌, ◌≡◌, ◌↔◌, nat_abs, false, length, drop, All, MatchOption, IfSome, IsTrue};
+ghost use Rattle.json_model.specs.Decimal.{HasNarrowDigits, IsWhole};
+ghost use Rattle.json_exact.specs.Digits.{joined};
+ghost use Rattle.json_exact.specs.Exact.{signed, exactly, IsWithinLimits};
+ghost use Rattle.json_exact.specs.Groups.{groups_of, lifted, AreGroups, AreWorth};
+ghost use Rattle.json_exact.specs.SignificantDigits.{Holds};
+
+use crate::significant_digits::SignificantDigits;
+use std::marker::Model;
+
+#[derive(Clone, Copy, Debug)]
+pub struct Decimal {
+    negative: bool,
+    digits: [u8; 38],
+    top: u32,
+}
+
+impl Model for Decimal {
+    ghost use Rattle.std.specs.Prelude.{ℤ};
+
+    ghost Value = { ℤ };
+
+    ghost use Rattle.json_exact.specs.DecimalFields.{parts_of, IsFields};
+    ghost use Rattle.json_exact.specs.DecimalInverseLaws.{fields_of, fields_of-parts_of};
+
+    ghost view = { parts_of };
+
+    ghost invariant = { IsFields };
+
+    ghost inverse = { fields_of };
+
+    ghost inverse_ok = { fields_of-parts_of };
+}
+
+/// The digits that groups write.
+fn digits_of(groups: &[u8]) -> SignificantDigits
+    requires len { length groups.now < 2 ^ 63 }
+    requires groups { AreGroups groups.now }
+    ensures len { result.len ≤ 2 * length groups.now }
+    ensures holds { Holds result.digits result.len result.too_wide (joined 10000 (groups_of groups.now)) }
+{
+    let mut digits = SignificantDigits::new();
+    let mut rest = groups;
+    while let [low, high, more @ ..] = rest {
+        digits.push_group(*low as u16 + 256 * *high as u16);
+        rest = more;
+    }
+    digits
+}
+
+/// How far a weight lies above the least.
+fn lifted(weight: i16) -> u64
+    ensures small { result < 2 ^ 16 }
+    ensures lifted { result ≡ lifted weight }
+{
+    (i32::from(weight) + 0x8000) as u64
+}
+
+/// Whether all digits from a place on are 0.
+fn ends_in_zeros(digits: &[u8], place: usize) -> bool
+    ensures { IsTrue result ↔ All (λ d. d ≡ 0) (drop place digits.now) }
+{
+    if place >= digits.len() {
+        return true;
+    }
+    digits[place..].iter().all(|&digit| digit == 0)
+}
+
+impl Decimal {
+    /// The number that digits write, times 10 to the power `up` and divided by 10 to the power `down`, in parts.
+    fn from_digits(negative: bool, digits: SignificantDigits, up: u128, down: u128) -> Decimal
+        requires up { up < 2 ^ 100 }
+        requires down { down < 2 ^ 100 }
+        requires kept { digits.too_wide ≡ false }
+        requires exact { (n q : ℕ) × Holds digits.digits digits.len digits.too_wide n × (n * 10 ^ up ≡ q * 10 ^ down) }
+        requires low { digits.len + up ≤ 147455 + down }
+        ensures { (n q : ℕ) → Holds digits.digits digits.len digits.too_wide n → n * 10 ^ up ≡ q * 10 ^ down → result ≡ signed negative q }
+    {
+        let kept = digits.digits;
+        if digits.len == 0 {
+            Decimal { negative: false, digits: kept, top: 0 }
+        } else {
+            Decimal { negative, digits: kept, top: (digits.len as u128 + up - down) as u32 }
+        }
+    }
+
+    pub fn from_groups(negative: bool, weight: i16, groups: &[u8]) -> Option<Decimal>
+        requires groups { AreGroups groups.now }
+        requires exact { (q : ℕ) × AreWorth weight (groups_of groups.now) q }
+        ensures value { (q : ℕ) → AreWorth weight (groups_of groups.now) q → MatchOption result (¬ HasNarrowDigits q) (λ d. d ≡ signed negative q) }
+        ensures narrow { IfSome result (λ d. HasNarrowDigits (nat_abs d)) }
+    {
+        let digits = digits_of(groups);
+        if digits.too_wide {
+            return None;
+        }
+        let up = 16383 + 4 * (lifted(weight) as u128 + 1);
+        let down = 4 * (groups.len() as u128 / 2 + 0x8000);
+        Some(Decimal::from_digits(negative, digits, up, down))
+    }
+
+    pub fn is_integer(&self) -> bool
+        ensures whole { IsTrue result ↔ IsWhole (exactly self.now) }
+        ensures limits { IsWithinLimits self.now }
+    {
+        ends_in_zeros(&self.digits, self.top.saturating_sub(16383) as usize)
+    }
+}
+
+impl PartialEq for Decimal {
+    ghost use Rattle.std.specs.Ordering.{int_eq};
+    ghost use Rattle.std.proofs.Common.{rules};
+    ghost use Rattle.std.specs.Cmp.Rules.{comparing};
+
+    ghost eq = { int_eq };
+
+    ghost laws = { Prim.search (comparing, rules) };
+
+    fn eq(&self, other: &Decimal) -> bool {
+        if self.negative != other.negative {
+            return false;
+        }
+        if self.top != other.top {
+            return false;
+        }
+        self.digits == other.digits
+    }
+}
+
+impl Eq for Decimal {
+    ghost use Rattle.std.proofs.Common.{rules};
+    ghost use Rattle.std.specs.Cmp.Rules.{comparing};
+
+    ghost laws = { Prim.search (comparing, rules) };
+}

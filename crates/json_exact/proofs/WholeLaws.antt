@@ -7,7 +7,7 @@ use Rattle.std.proofs.lemmas.Bool.{cases_lt}
 use Rattle.std.proofs.lemmas.List.{drop_all}
 use Rattle.std.proofs.lemmas.List.Elements.{All-nil, All-cons, All-tail}
 use Rattle.json_model.specs.Decimal.{HasNarrowDigits, IsWhole}
-use Rattle.json_exact.specs.Exact.{signed, parts, exactly, IsWithinLimits}
+use Rattle.json_exact.specs.Exact.{signed, parts, limit, exactly, IsWithinLimits}
 use Rattle.json_exact.specs.Digits.{joined, AllBelow}
 use Rattle.json_exact.specs.DecimalFields.{parts_of, IsFields}
 use Rattle.json_exact.specs.declared.decimal.Decimal.TheInside.{Inside}
@@ -185,8 +185,8 @@ whole_digits a d h e =
     let n : nat_abs d ≡ q = ap nat_abs f ∙ abs_signed a.negative q in
     (λ z. whole_of d (subst Whole (sym n) (t.0 z)), λ w. t.1 (subst Whole n (of_whole d w)))
 
-below_limit : (q top : ℕ) → q < 10 ^ top → top ≤ 147455 → q < 10 ^ 131072 * parts
-unfolding parts
+below_limit : (q top : ℕ) → q < 10 ^ top → top ≤ 147455 → q < limit
+unfolding parts limit
 below_limit q top lt le = subst (λ (x : ℕ). q < x) (pow-add 10 131072 16383) (let m = ten_mono top 147455 le in chain q (10 ^ top) (10 ^ 147455) lt m)
   where
     chain : (x y z : ℕ) → x < y → y ≤ z → x < z
@@ -199,7 +199,7 @@ limits a d h e =
     let n : nat_abs d ≡ q = ap nat_abs f ∙ abs_signed a.negative q in
     record {
       narrow = subst HasNarrowDigits (sym n) (narrow_back q 38 (a.top, joined 10 a.digits, sym s.size, wide a.digits a.top q s));
-      below = subst (λ (x : ℕ). x < 10 ^ 131072 * parts) (sym n) (below_limit q a.top (high a.digits a.top q s) h.low) }
+      below = subst (λ (x : ℕ). x < limit) (sym n) (below_limit q a.top (high a.digits a.top q s) h.low) }
   where
     wide : (ds : List ℕ) (top q : ℕ) → Sized ds top q → q * 10 ^ 38 < 10 ^ (38 + top)
     wide ds top q s = subst (λ (x : ℕ). q * 10 ^ 38 < x) (sym (pow-add 10 38 top))

@@ -18,8 +18,12 @@ IsWorth d w = d *ℤ pos (10 ^ w.places) ≡ w.digits *ℤ pos parts
 abbrev pub signed : Bool → ℕ → ℤ
 signed negative n = if negative then neg_ℤ (pos n) else pos n
 
+-- 10 ^ 131072, in parts
+unfoldable pub limit : ℕ
+limit = 10 ^ 131072 * parts
+
 -- the limits of each `Decimal` of d parts: at most 38 digits from the first to the last that is not 0, and a magnitude
 -- below 10 ^ 131072
 pub record IsWithinLimits (d : ℤ) : Type 0 where
   pub narrow : HasNarrowDigits (nat_abs d)
-  pub below : nat_abs d < 10 ^ 131072 * parts
+  pub below : nat_abs d < limit

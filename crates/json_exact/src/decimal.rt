@@ -76,7 +76,8 @@ impl Decimal {
         requires kept { digits.too_wide ≡ false }
         requires exact { (n q : ℕ) × Holds digits.digits digits.len digits.too_wide n × (n * 10 ^ up ≡ q * 10 ^ down) }
         requires low { digits.len + up ≤ 147455 + down }
-        ensures { (n q : ℕ) → Holds digits.digits digits.len digits.too_wide n → n * 10 ^ up ≡ q * 10 ^ down → result ≡ signed negative q }
+        ensures value { (n q : ℕ) → Holds digits.digits digits.len digits.too_wide n → n * 10 ^ up ≡ q * 10 ^ down → result ≡ signed negative q }
+        ensures limits { IsWithinLimits result }
     {
         let kept = digits.digits;
         if digits.len == 0 {
@@ -90,7 +91,7 @@ impl Decimal {
         requires groups { AreGroups groups.now }
         requires exact { (q : ℕ) × AreWorth weight (groups_of groups.now) q }
         ensures value { (q : ℕ) → AreWorth weight (groups_of groups.now) q → MatchOption result (¬ HasNarrowDigits q) (λ d. d ≡ signed negative q) }
-        ensures narrow { IfSome result (λ d. HasNarrowDigits (nat_abs d)) }
+        ensures limits { IfSome result (λ d. IsWithinLimits d) }
     {
         let digits = digits_of(groups);
         if digits.too_wide {
@@ -119,13 +120,7 @@ impl PartialEq for Decimal {
     ghost laws = { Prim.search (comparing, rules) };
 
     fn eq(&self, other: &Decimal) -> bool {
-        if self.negative != other.negative {
-            return false;
-        }
-        if self.top != other.top {
-            return false;
-        }
-        self.digits == other.digits
+        self.negative == other.negative && self.top == other.top && self.digits == other.digits
     }
 }
 

@@ -64,10 +64,7 @@ impl PartialEq for Number {
     ghost laws = { Prim.search (comparing, rules) };
 
     fn eq(&self, other: &Number) -> bool {
-        if self.fraction_digits != other.fraction_digits {
-            return false;
-        }
-        self.decimal == other.decimal
+        self.fraction_digits == other.fraction_digits && self.decimal == other.decimal
     }
 }
 

@@ -26,13 +26,5 @@ pub from_digits-requires-clause-low : goal.from_digits-requires-clause-low
 from_digits-requires-clause-low c = let h = even c.args.groups.now c.requires.groups in let g = c.digits_of-digits.ensures.len in let k = c.lifted.ensures.small in omega arith
 
 pub returns-clause-value : goal.returns-clause-value
-returns-clause-value c = λ q e. c.from_digits.ensures _ q c.digits_of-digits.ensures.holds
+returns-clause-value c = λ q e. c.from_digits.ensures.value _ q c.digits_of-digits.ensures.holds
     (worth c.args.weight c.args.groups.now _ q c.requires.groups (lifts _ c.args.weight (search rules) c.lifted.ensures.lifted) e)
-
-pub returns-clause-narrow : goal.returns-clause-narrow
-returns-clause-narrow c =
-    let (q, e) = c.requires.exact in
-    let w = worth c.args.weight c.args.groups.now _ q c.requires.groups (lifts _ c.args.weight (search rules) c.lifted.ensures.lifted) e in
-    let is = c.from_digits.ensures _ q c.digits_of-digits.ensures.holds w in
-    subst HasNarrowDigits (sym (ap nat_abs is ∙ abs_signed c.args.negative q))
-      (narrow_same q _ _ _ (sym w) (kept_narrow _ _ _ (keeps_of _ _ _ _ c.digits_of-digits.ensures.holds c.if-digits.false)))

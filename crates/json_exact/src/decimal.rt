@@ -10,10 +10,17 @@ ghost use Rattle.json_exact.specs.SignificantDigits.{Holds};
 use crate::significant_digits::SignificantDigits;
 use std::marker::Model;
 
+/// How many fraction digits write each `Decimal` exactly.
+const FRACTION_DIGITS: u32 = 16_383;
+
+/// An exact decimal: at most 38 digits from the first to the last that is not 0, of a magnitude below 10^131072, and
+/// written exactly by 16,383 fraction digits. `==` compares values. Zero has no sign.
 #[derive(Clone, Copy, Debug)]
 pub struct Decimal {
     negative: bool,
+    // the digits from the first that is not 0 on; all 0 where the value is
     digits: [u8; 38],
+    // how many digits the magnitude has when it is written with `FRACTION_DIGITS` fraction digits; 0 where the value is
     top: u32,
 }
 
@@ -50,7 +57,7 @@ fn digits_of(groups: &[u8]) -> SignificantDigits
     digits
 }
 
-/// How far a weight lies above the least.
+/// How far a weight lies above the least that an `i16` has.
 fn lifted(weight: i16) -> u64
     ensures small { result < 2 ^ 16 }
     ensures lifted { result ≡ lifted weight }
@@ -58,18 +65,19 @@ fn lifted(weight: i16) -> u64
     (i32::from(weight) + 0x8000) as u64
 }
 
-/// Whether all digits from a place on are 0.
-fn ends_in_zeros(digits: &[u8], place: usize) -> bool
-    ensures { IsTrue result ↔ All (λ d. d ≡ 0) (drop place digits.now) }
+/// Whether all digits from an index on are 0.
+fn ends_in_zeros(digits: &[u8], index: usize) -> bool
+    ensures { IsTrue result ↔ All (λ d. d ≡ 0) (drop index digits.now) }
 {
-    if place >= digits.len() {
+    if index >= digits.len() {
         return true;
     }
-    digits[place..].iter().all(|&digit| digit == 0)
+    digits[index..].iter().all(|&digit| digit == 0)
 }
 
 impl Decimal {
-    /// The number that digits write, times 10 to the power `up` and divided by 10 to the power `down`, in parts.
+    /// The decimal whose magnitude, in units of its last of `FRACTION_DIGITS` fraction digits, is the number that
+    /// `digits` holds times 10^`up` divided by 10^`down`.
     fn from_digits(negative: bool, digits: SignificantDigits, up: u128, down: u128) -> Decimal
         requires up { up < 2 ^ 100 }
         requires down { down < 2 ^ 100 }
@@ -87,6 +95,11 @@ impl Decimal {
         }
     }
 
+    /// The sum of group i times 10000^(`weight` - i), negated where `negative` is true. Each group is two bytes of
+    /// `groups`, the lower first, and the empty slice gives zero.
+    ///
+    /// `None` where the sum has more than 38 digits from the first to the last that is not 0. The shortest `groups` that
+    /// give it are ten: 100, eight times 0, and 1. The caller knows that 16,383 fraction digits write the sum exactly.
     pub fn from_groups(negative: bool, weight: i16, groups: &[u8]) -> Option<Decimal>
         requires groups { AreGroups groups.now }
         requires exact { (q : ℕ) × AreWorth weight (groups_of groups.now) q }
@@ -97,16 +110,17 @@ impl Decimal {
         if digits.too_wide {
             return None;
         }
-        let up = 16383 + 4 * (lifted(weight) as u128 + 1);
+        let up = FRACTION_DIGITS as u128 + 4 * (lifted(weight) as u128 + 1);
         let down = 4 * (groups.len() as u128 / 2 + 0x8000);
         Some(Decimal::from_digits(negative, digits, up, down))
     }
 
+    /// Whether the value is whole, as that of `1.0` is.
     pub fn is_integer(&self) -> bool
         ensures whole { IsTrue result ↔ IsWhole (exactly self.now) }
         ensures limits { IsWithinLimits self.now }
     {
-        ends_in_zeros(&self.digits, self.top.saturating_sub(16383) as usize)
+        ends_in_zeros(&self.digits, self.top.saturating_sub(FRACTION_DIGITS) as usize)
     }
 }
 

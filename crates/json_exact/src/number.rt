@@ -6,6 +6,8 @@ ghost use Rattle.json_exact.specs.Exact.{IsWorth};
 use crate::decimal::Decimal;
 use std::marker::Model;
 
+/// A decimal, and how many fraction digits it is written with: at most 16,383, and enough to write it exactly. `==`
+/// compares both, so `1` and `1.0` differ.
 #[derive(Clone, Copy, Debug)]
 pub struct Number {
     decimal: Decimal,
@@ -30,6 +32,7 @@ impl Model for Number {
 }
 
 impl Number {
+    /// The decimal, written with so many fraction digits. The caller knows that they write it exactly.
     pub fn new(decimal: Decimal, fraction_digits: u16) -> Number
         requires few { fraction_digits ≤ 16383 }
         requires exact { (q : ℕ) × (nat_abs decimal ≡ q * 10 ^ (16383 - fraction_digits)) }
@@ -39,12 +42,14 @@ impl Number {
         Number { decimal, fraction_digits }
     }
 
+    /// The value, which forgets how many fraction digits are written.
     pub fn decimal(&self) -> Decimal
         ensures { IsWorth result self.now }
     {
         self.decimal
     }
 
+    /// How many digits are written behind the point, zeros at the end too.
     pub fn fraction_digits(&self) -> u16
         ensures places { result ≡ self.now.places }
         ensures few { result ≤ 16383 }

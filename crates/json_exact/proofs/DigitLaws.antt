@@ -11,4 +11,3 @@ ten_mono a b le =
     at_least : (s m : ℕ) → 0 < m → s ≤ s * m
     at_least s zero p = absurd (omega arith)
     at_least s (suc m) p = omega arith
-

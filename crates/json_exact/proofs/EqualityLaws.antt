@@ -35,10 +35,13 @@ tested a b x y r s u n p e = go r refl
   where
     d : Decides r (a.digits ≡ b.digits)
     d = slice_eq-Decides Decides-eqb a.digits b.digits r e
+
     all : a.digits ≡ b.digits → a ≡ b
     all f = ap (λ (n : Bool). record { negative = n; digits = a.digits; top = a.top }) n ∙ ap (λ (ds : List ℕ). record { negative = b.negative; digits = ds; top = a.top }) f ∙ ap (λ (t : ℕ). record { negative = b.negative; digits = b.digits; top = t }) p
+
     not_both : r ≡ true → r ≡ false → ⊥
     not_both u v = cc
+
     go : (t : Bool) → r ≡ t → r ≡ int_eq x y
     go true f = f ∙ sym ((Decides-int_eq x y).1 (sym s.view_is ∙ ap parts_of (all (d.0 f)) ∙ u.view_is))
     go false f = f ∙ sym (unequal a b x y s u (λ g. not_both (d.1 (ap (λ (i : Inside). i.digits) g)) f))

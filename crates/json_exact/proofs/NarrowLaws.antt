@@ -18,13 +18,16 @@ narrow_less n d lt (suc b, k, e, small) =
     (b, k, omega arith, omega arith)
 
 pub narrow_more : (n k : ℕ) → HasNarrowDigits n → HasNarrowDigits (n * 10 ^ k)
-narrow_more n k (b, m, e, lt) =
-    (b + k, m,
-     ap (λ (x : ℕ). x * 10 ^ k) e ∙ products m (10 ^ b) (10 ^ k) ∙ ap (λ (x : ℕ). m * x) (sym (pow-add 10 b k)),
-     subst (λ (x : ℕ). n * 10 ^ k < x) (sym (pow-add 10 (38 + b) k) ∙ ap (λ (i : ℕ). 10 ^ i) (sums 38 b k)) (mul-lt-mul_of_pos_right lt (ten_pos k)))
+narrow_more n k (b, m, e, lt) = (
+  b + k,
+  m,
+  ap (λ (x : ℕ). x * 10 ^ k) e ∙ products m (10 ^ b) (10 ^ k) ∙ ap (λ (x : ℕ). m * x) (sym (pow-add 10 b k)),
+  subst (λ (x : ℕ). n * 10 ^ k < x) (sym (pow-add 10 (38 + b) k) ∙ ap (λ (i : ℕ). 10 ^ i) (sums 38 b k)) (mul-lt-mul_of_pos_right lt (ten_pos k)),
+)
   where
     products : (x y z : ℕ) → x * y * z ≡ x * (y * z)
     products x y z = omega arith
+
     sums : (x y z : ℕ) → x + y + z ≡ x + (y + z)
     sums x y z = omega arith
 

@@ -1,5 +1,5 @@
 -- What a `Number` is, from its fields.
-use Rattle.std.proofs.Common.{◌≡◌, ℕ, ◌+◌, ◌-◌, ◌*◌, ◌/◌, ◌^◌, ◌≤◌, Bool, true, false, eqb, refl, sym, ap, subst, ◌∙◌, arith, ℤ, pos, nat_abs}
+use Rattle.std.proofs.Common.{◌≡◌, ℕ, ◌+◌, ◌-◌, ◌/◌, ◌^◌, ◌≤◌, Bool, true, false, eqb, refl, sym, ap, subst, ◌∙◌, arith, ℤ, pos, nat_abs}
 use Rattle.std.specs.Prelude.{◌*ℤ◌, int_lt, ◌&&◌}
 use Rattle.std.specs.Ordering.{int_eq}
 use Rattle.std.proofs.lemmas.Bool.Decides.{Decides-int_eq}
@@ -13,7 +13,7 @@ use Rattle.json_exact.specs.DecimalInverseLaws.{ten_pos}
 use Rattle.json_exact.proofs.SignLaws.{twice}
 use Rattle.json_exact.specs.NumberInverseLaws.{divided_times}
 use Rattle.json_exact.proofs.EqualityLaws.{differ}
-use Rattle.json_exact.proofs.WorthLaws.{one_way, one_worth}
+use Rattle.json_exact.proofs.WorthLaws.{one_record, one_value}
 
 -- c with f fraction digits is worth what it is with 16383 of them
 lifted : (d c : ℤ) (f : ℕ) → f ≤ 16383 → c *ℤ pos (10 ^ (16383 - f)) ≡ d → IsWorth d (record { digits = c; places = f })
@@ -26,7 +26,7 @@ pub worth_of : (n : Inside) (w : Written) → IsWrittenWith n → written_with n
 unfolding written_with
 worth_of n w h e = subst (λ (w : Written). IsWorth n.decimal w) e
     (lifted n.decimal (signed (int_lt n.decimal (pos 0)) (nat_abs n.decimal / 10 ^ (16383 - n.fraction_digits))) n.fraction_digits h.few
-      (divided_times n.decimal h.exact.0 (10 ^ (16383 - n.fraction_digits)) (ten_pos (16383 - n.fraction_digits)) h.exact.1))
+    (divided_times n.decimal h.exact.0 (10 ^ (16383 - n.fraction_digits)) (ten_pos (16383 - n.fraction_digits)) h.exact.1))
 
 pub places_of : (n : Inside) (w : Written) → written_with n ≡ w → n.fraction_digits ≡ w.places
 unfolding written_with
@@ -46,19 +46,24 @@ compared n m w v r h e g f same s = s ∙ go (int_eq n.decimal m.decimal) refl
   where
     p : w.places ≡ v.places
     p = sym (places_of n w e) ∙ same ∙ places_of m v f
+
     worths : n.decimal ≡ m.decimal → w.digits ≡ v.digits
-    worths d = ap (λ (u : Written). u.digits) (one_way n.decimal w v (worth_of n w h e) (subst (λ (x : ℤ). IsWorth x v) (sym d) (worth_of m v g f)) p)
+    worths d = ap (λ (u : Written). u.digits) (one_record n.decimal w v (worth_of n w h e) (subst (λ (x : ℤ). IsWorth x v) (sym d) (worth_of m v g f)) p)
+
     digits : w.digits ≡ v.digits → n.decimal ≡ m.decimal
-    digits d = one_worth n.decimal m.decimal w (worth_of n w h e)
+    digits d = one_value n.decimal m.decimal w (worth_of n w h e)
         (subst (λ (u : Written). IsWorth m.decimal u) (sym (both w v d p)) (worth_of m v g f))
       where
         both : (w v : Written) → w.digits ≡ v.digits → w.places ≡ v.places → w ≡ v
         both w v d e = ap (λ (c : ℤ). record { digits = c; places = w.places }) d ∙ ap (λ (k : ℕ). record { digits = v.digits; places = k }) e
+
     yes : (a b : Bool) → a ≡ true → b ≡ true → (a && b) ≡ true
     yes a b e f = cc
+
     no : (a b : Bool) → a ≡ false → (a && b) ≡ false
     no true b e = cc
     no false b e = refl
+
     go : (t : Bool) → int_eq n.decimal m.decimal ≡ t → int_eq n.decimal m.decimal ≡ (int_eq w.digits v.digits && eqb w.places v.places)
     go true t = t ∙ sym (yes (int_eq w.digits v.digits) (eqb w.places v.places) ((Decides-int_eq w.digits v.digits).1 (worths ((Decides-int_eq n.decimal m.decimal).0 t))) (eq-eqb w.places v.places p))
     go false t = t ∙ sym (no (int_eq w.digits v.digits) (eqb w.places v.places) (differ w.digits v.digits (λ d. both_ways (int_eq n.decimal m.decimal) t ((Decides-int_eq n.decimal m.decimal).1 (digits d)))))

@@ -1,17 +1,14 @@
 -- What a push makes of the digits that are held.
-use Rattle.std.proofs.Common.{◌≡◌, ℕ, zero, suc, ◌+◌, ◌-◌, ◌*◌, ◌/◌, ◌%◌, ◌^◌, ◌<◌, ◌≤◌, ◌⊎◌, Bool, true, false, eqb, List, [], ◌∷◌, ◌++◌, length, get_or, set, take, drop, refl, sym, ap, subst, ◌∙◌, arith, inl, inr}
-use Rattle.std.proofs.Math.Nat.{pow-suc, mul-mod_left, mul-div_cancel, lt_of_mul-lt-mul_right, mul-lt-mul_of_pos_right, mul-le-mul_right}
-use Rattle.std.proofs.lemmas.Nat.{pow-add, div-add-mod', div-mul-add, mod-mul-add, mul-le}
-use Rattle.std.proofs.lemmas.Bool.{cases_eq, cases_lt}
-use Rattle.std.proofs.Common.{get_or-set_other, get_or-set_same}
+use Rattle.std.proofs.Common.{◌≡◌, ℕ, zero, suc, ◌+◌, ◌-◌, ◌*◌, ◌^◌, ◌<◌, ◌≤◌, ◌⊎◌, Bool, true, false, List, [], ◌∷◌, length, get_or, set, refl, sym, ap, subst, ◌∙◌, arith, inl, inr}
+use Rattle.std.proofs.Math.Nat.{pow-suc}
+use Rattle.std.proofs.lemmas.Nat.{pow-add, mul-le}
+use Rattle.std.proofs.Common.{get_or-set_other}
 use Rattle.std.proofs.Math.ListN.{length-set}
-use native.Mathlib.Numerals.{unary_clauses}
 use Rattle.json_model.specs.Decimal.{HasNarrowDigits}
 use Rattle.json_exact.specs.Digits.{joined, AllBelow}
-use Rattle.json_exact.specs.DecimalInverseLaws.{ten_pos}
 use Rattle.json_exact.proofs.DigitLaws.{ten_mono}
 use Rattle.json_exact.proofs.NarrowLaws.{narrow_less}
-use Rattle.json_exact.specs.SignificantDigits.{Keeps, Loses, Holds, kept, lost}
+use Rattle.json_exact.specs.SignificantDigits.{Keeps, Holds, kept, lost}
 
 pub below_set : (b d : ℕ) (ds : List ℕ) (i : ℕ) → AllBelow b ds → d < b → AllBelow b (set ds i d)
 below_set b d [] i h lt = tt
@@ -30,11 +27,11 @@ joined_set b d (e ∷ ds) (suc i) r len z =
 
 pub skip : (ds : List ℕ) (w : Bool) (n : ℕ) → Holds ds 0 w n → Holds ds 0 w (n * 10 + 0)
 skip ds false n (kept h) = elim h.lead [
-    inl z ↦ let e : joined 10 ds * 10 ^ 0 ≡ 0 = rw (z.1) (omega arith) in
-        let s = h.size in let n0 : n ≡ 0 = omega arith in
-        kept (subst (λ (m : ℕ). Keeps ds 0 m) (let g : n ≡ n * 10 + 0 = omega arith in g) h)
+  | inl z ↦ let e : joined 10 ds * 10 ^ 0 ≡ 0 = rw (z.1) (omega arith) in
+      let s = h.size in let n0 : n ≡ 0 = omega arith in
+      kept (subst (λ (m : ℕ). Keeps ds 0 m) (let g : n ≡ n * 10 + 0 = omega arith in g) h)
   | inr z ↦ absurd (let p = z.0 in omega arith)
-  ]
+]
 skip ds true n (lost h) = let m = h.many in absurd (omega arith)
 
 above_none : (d : ℕ) → (d ≡ 0 → ⊥) → 0 < d
@@ -49,17 +46,18 @@ put ds len false d n lt small some (kept h) =
     let p : 10 ^ r * 10 ^ (len + 1) ≡ 10 ^ 38 = (let e : r + (len + 1) ≡ 38 = omega arith in sym (pow-add 10 r (len + 1)) ∙ ap (λ (k : ℕ). 10 ^ k) e) in
     let q : 10 ^ (len + 1) ≡ 10 ^ len * 10 = pow-add 10 len 1 in
     kept (record {
-        count = length-set ds len d ∙ h.count;
-        below = below_set 10 d ds len h.below small;
-        size = ap (λ (x : ℕ). (n * 10 + d) * x) refl ∙ step n (joined 10 ds) d (10 ^ 38) (10 ^ len) (10 ^ (len + 1)) (10 ^ r) h.size q p ∙ ap (λ (x : ℕ). x * 10 ^ (len + 1)) (sym j);
-        lead = inr (omega arith, rw j (leads h.lead));
-        rest = λ k le. (let ne : (k ≡ len → ⊥) = λ e. absurd (omega arith) in rw get_or-set_other (h.rest k (omega arith))) })
+      count = length-set ds len d ∙ h.count;
+      below = below_set 10 d ds len h.below small;
+      size = ap (λ (x : ℕ). (n * 10 + d) * x) refl ∙ step n (joined 10 ds) d (10 ^ 38) (10 ^ len) (10 ^ (len + 1)) (10 ^ r) h.size q p ∙ ap (λ (x : ℕ). x * 10 ^ (len + 1)) (sym j);
+      lead = inr (omega arith, rw j (leads h.lead));
+      rest = λ k le. (let ne : (k ≡ len → ⊥) = λ e. absurd (omega arith) in rw get_or-set_other (h.rest k (omega arith)));
+    })
   where
     step : (n j d a b c r : ℕ) → n * a ≡ j * b → c ≡ b * 10 → r * c ≡ a → (n * 10 + d) * a ≡ (j + d * r) * c
     step n j d a b c r e f g = let x : j * c ≡ j * (b * 10) = ap (λ (x : ℕ). j * x) f in let y : d * (r * c) ≡ d * a = ap (λ (x : ℕ). d * x) g in omega arith
+
     leads : ((len ≡ 0) × (joined 10 ds ≡ 0)) ⊎ ((0 < len) × (10 ^ 37 ≤ joined 10 ds)) → 10 ^ 37 ≤ joined 10 ds + d * 10 ^ (37 - len)
     leads (inl z) = let p : 0 < d = above_none d (some z.0) in let q : 10 ^ (37 - len) ≡ 10 ^ 37 = ap (λ (k : ℕ). 10 ^ (37 - k)) z.0 in rw q (omega arith)
-
     leads (inr z) = let p = z.1 in omega arith
 put ds len true d n lt small some (lost h) = let m = h.many in absurd (omega arith)
 
@@ -75,9 +73,9 @@ over ds len false d n le small some (kept h) = lost (record { many = omega arith
   where
     too : HasNarrowDigits (n * 10 + d) → ⊥
     too (zero, k, e, lt) = elim h.lead [
-        inl z ↦ absurd (let p = z.0 in omega arith)
+      | inl z ↦ absurd (let p = z.0 in omega arith)
       | inr z ↦ let big : 10 ^ 37 * 10 ^ 38 ≤ joined 10 ds * 10 ^ len = mul-le (10 ^ 37) (10 ^ 38) (joined 10 ds) (10 ^ len) z.1 (ten_mono 38 len le) in let s = h.size in some (omega arith)
-      ]
+    ]
     too (suc b, k, e, lt) = let f = pow-suc 10 b in let g : k * 10 ^ suc b ≡ k * 10 ^ b * 10 = rw f (omega arith) in some (omega arith)
 over ds len true d n le small some (lost h) = lost (record { many = omega (arith, h.many); wide = λ a. h.wide (narrow_less n d small a) })
 

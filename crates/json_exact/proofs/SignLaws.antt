@@ -30,19 +30,22 @@ cancel d e p some h = same (nat_abs d) abs refl
   where
     abs : nat_abs d ≡ nat_abs e
     abs = eq_of_mul-eq-mul_right p some (nat_abs d) (nat_abs e) (sym (abs_times d p) ∙ ap nat_abs h ∙ abs_times e p)
+
     positive : (n p : ℕ) → 0 < p → 0 < suc n * p
     positive n zero h = absurd (omega arith)
     positive n (suc p) h = omega arith
+
     nothing : (m n : Bool) → signed m 0 ≡ signed n 0
     nothing true true = refl
     nothing true false = refl
     nothing false true = refl
     nothing false false = refl
+
     same : (n : ℕ) → nat_abs d ≡ nat_abs e → nat_abs d ≡ n → d ≡ e
     same zero a z = sign_abs d ∙ ap (λ (x : ℕ). signed (int_lt d (pos 0)) x) z ∙ nothing (int_lt d (pos 0)) (int_lt e (pos 0)) ∙ ap (λ (x : ℕ). signed (int_lt e (pos 0)) x) (sym z ∙ a) ∙ sym (sign_abs e)
     same (suc n) a z =
         let u : 0 < nat_abs d * p = subst (λ (x : ℕ). 0 < x * p) (sym z) (positive n p some) in
         let v : 0 < nat_abs e * p = subst (λ (x : ℕ). 0 < x * p) a u in
         let s : int_lt d (pos 0) ≡ int_lt e (pos 0) =
-            sym (sign_signed (int_lt d (pos 0)) (nat_abs d * p) u) ∙ ap (λ (x : ℤ). int_lt x (pos 0)) (sym (times d p) ∙ h ∙ times e p) ∙ sign_signed (int_lt e (pos 0)) (nat_abs e * p) v in
+        sym (sign_signed (int_lt d (pos 0)) (nat_abs d * p) u) ∙ ap (λ (x : ℤ). int_lt x (pos 0)) (sym (times d p) ∙ h ∙ times e p) ∙ sign_signed (int_lt e (pos 0)) (nat_abs e * p) v in
         sign_abs d ∙ ap (λ (b : Bool). signed b (nat_abs d)) s ∙ ap (λ (x : ℕ). signed (int_lt e (pos 0)) x) a ∙ sym (sign_abs e)

@@ -1,7 +1,7 @@
 -- A decimal is whole where its digits past the point are 0.
-use Rattle.std.proofs.Common.{◌≡◌, ℕ, zero, suc, ◌+◌, ◌-◌, ◌*◌, ◌%◌, ◌^◌, ◌<◌, ◌≤◌, ◌⊎◌, List, [], ◌∷◌, length, take, drop, refl, sym, ap, subst, ◌∙◌, arith, inl, inr, ℤ, pos, nat_abs}
-use Rattle.std.specs.Prelude.{◌*ℤ◌, ◌↔◌, int_lt, All}
-use Rattle.std.proofs.Math.Nat.{pow-suc, mul-lt-mul_of_pos_right, eq_of_mul-eq-mul_right, mul-mod_left}
+use Rattle.std.proofs.Common.{◌≡◌, ℕ, zero, suc, ◌+◌, ◌-◌, ◌*◌, ◌%◌, ◌^◌, ◌<◌, ◌≤◌, List, [], ◌∷◌, length, take, drop, refl, sym, ap, subst, ◌∙◌, arith, inl, inr, ℤ, pos, nat_abs}
+use Rattle.std.specs.Prelude.{◌↔◌, int_lt, All}
+use Rattle.std.proofs.Math.Nat.{mul-lt-mul_of_pos_right, eq_of_mul-eq-mul_right, mul-mod_left}
 use Rattle.std.proofs.lemmas.Nat.{pow-add, mod-mul-add}
 use Rattle.std.proofs.lemmas.Bool.{cases_lt}
 use Rattle.std.proofs.lemmas.List.{drop_all}
@@ -65,6 +65,7 @@ split (suc k) r (d ∷ ds) e =
     lengths zero r ds e = omega arith
     lengths (suc k) r [] e = absurd (omega arith)
     lengths (suc k) r (d ∷ ds) e = let h = lengths k r ds (omega arith) in omega arith
+
     step : (d a b c j t u : ℕ) → a ≡ b * c → j ≡ t * c + u → d * a + j ≡ (d * b + t) * c + u
     step d a b c j t u e f = rw e (omega arith)
 
@@ -99,6 +100,7 @@ none_whole ds top q h le (zero, e) =
   where
     zeros : (p : ℕ) → 0 * p ≡ 0
     zeros p = omega arith
+
     nothing : (j p : ℕ) → 0 < p → j * p ≡ 0 * 10 ^ 38 → j ≡ 0
     nothing zero p h e = refl
     nothing (suc j) p h e = absurd (omega arith)
@@ -110,8 +112,11 @@ none_whole ds top q h le (suc k, e) = absurd (no (10 ^ top) (10 ^ 16383) q k (te
 -- more digits than are kept stand before the point
 whole_long : (ds : List ℕ) (top q t : ℕ) → Sized ds top q → top ≡ 38 + (t + 16383) → Whole q
 unfolding parts
-whole_long ds top q t h e = (joined 10 ds * 10 ^ t, eq_of_mul-eq-mul_right (10 ^ 38) (ten_pos 38) q (joined 10 ds * 10 ^ t * 10 ^ 16383)
-    (sym h.size ∙ ap (λ (x : ℕ). joined 10 ds * x) (ap (λ (k : ℕ). 10 ^ k) e ∙ pow-add 10 38 (t + 16383) ∙ ap (λ (x : ℕ). 10 ^ 38 * x) (pow-add 10 t 16383)) ∙ products (joined 10 ds) (10 ^ 38) (10 ^ t) (10 ^ 16383)))
+whole_long ds top q t h e = (
+  joined 10 ds * 10 ^ t,
+  eq_of_mul-eq-mul_right (10 ^ 38) (ten_pos 38) q (joined 10 ds * 10 ^ t * 10 ^ 16383)
+      (sym h.size ∙ ap (λ (x : ℕ). joined 10 ds * x) (ap (λ (k : ℕ). 10 ^ k) e ∙ pow-add 10 38 (t + 16383) ∙ ap (λ (x : ℕ). 10 ^ 38 * x) (pow-add 10 t 16383)) ∙ products (joined 10 ds) (10 ^ 38) (10 ^ t) (10 ^ 16383)),
+)
   where
     products : (j a t p : ℕ) → j * (a * (t * p)) ≡ j * t * p * a
     products j a t p = omega arith
@@ -121,11 +126,13 @@ whole_some : (ds : List ℕ) (top q w r : ℕ) → Sized ds top q → top ≡ w 
 unfolding parts
 whole_some ds top q w r h e f z =
     let s = split w r ds (h.count ∙ sym f) in
-    let n = none_counts (drop w ds) z in
-    (joined 10 (take w ds), eq_of_mul-eq-mul_right (10 ^ 38) (ten_pos 38) q (joined 10 (take w ds) * 10 ^ 16383)
-      (sym h.size ∙ ap (λ (x : ℕ). x * 10 ^ top) (s ∙ ap (λ (x : ℕ). joined 10 (take w ds) * 10 ^ r + x) n)
-       ∙ ap (λ (x : ℕ). (joined 10 (take w ds) * 10 ^ r + 0) * x) (ap (λ (k : ℕ). 10 ^ k) e ∙ pow-add 10 w 16383)
-       ∙ step (joined 10 (take w ds)) (10 ^ r) (10 ^ w) (10 ^ 16383) (10 ^ 38) (sym (pow-add 10 w r) ∙ ap (λ (k : ℕ). 10 ^ k) f)))
+    let n = none_counts (drop w ds) z in (
+      joined 10 (take w ds),
+      eq_of_mul-eq-mul_right (10 ^ 38) (ten_pos 38) q (joined 10 (take w ds) * 10 ^ 16383)
+          (sym h.size ∙ ap (λ (x : ℕ). x * 10 ^ top) (s ∙ ap (λ (x : ℕ). joined 10 (take w ds) * 10 ^ r + x) n)
+          ∙ ap (λ (x : ℕ). (joined 10 (take w ds) * 10 ^ r + 0) * x) (ap (λ (k : ℕ). 10 ^ k) e ∙ pow-add 10 w 16383)
+          ∙ step (joined 10 (take w ds)) (10 ^ r) (10 ^ w) (10 ^ 16383) (10 ^ 38) (sym (pow-add 10 w r) ∙ ap (λ (k : ℕ). 10 ^ k) f)),
+    )
   where
     step : (j r w p a : ℕ) → w * r ≡ a → (j * r + 0) * (w * p) ≡ j * p * a
     step j r w p a e = let x : j * p * (w * r) ≡ j * p * a = ap (λ (x : ℕ). j * p * x) e in omega arith
@@ -137,42 +144,49 @@ some_whole ds top q w r h e f (k, g) =
     let u = joined_below 10 (drop w ds) (below_drop w ds h.below) in
     let v : joined 10 (drop w ds) < 10 ^ r = subst (λ (n : ℕ). joined 10 (drop w ds) < 10 ^ n) (drop_length w r ds (h.count ∙ sym f)) u in
     let a : joined 10 ds * 10 ^ w ≡ k * 10 ^ 38 = eq_of_mul-eq-mul_right (10 ^ 16383) (ten_pos 16383) (joined 10 ds * 10 ^ w) (k * 10 ^ 38)
-        (products (joined 10 ds) (10 ^ w) (10 ^ 16383) ∙ ap (λ (x : ℕ). joined 10 ds * x) (sym (pow-add 10 w 16383) ∙ ap (λ (n : ℕ). 10 ^ n) (sym e)) ∙ h.size ∙ ap (λ (x : ℕ). x * 10 ^ 38) g ∙ turned k (10 ^ 16383) (10 ^ 38)) in
+    (products (joined 10 ds) (10 ^ w) (10 ^ 16383) ∙ ap (λ (x : ℕ). joined 10 ds * x) (sym (pow-add 10 w 16383) ∙ ap (λ (n : ℕ). 10 ^ n) (sym e)) ∙ h.size ∙ ap (λ (x : ℕ). x * 10 ^ 38) g ∙ turned k (10 ^ 16383) (10 ^ 38)) in
     let b : joined 10 ds ≡ k * 10 ^ r = eq_of_mul-eq-mul_right (10 ^ w) (ten_pos w) (joined 10 ds) (k * 10 ^ r)
-        (a ∙ ap (λ (x : ℕ). k * x) (ap (λ (n : ℕ). 10 ^ n) (sym f) ∙ pow-add 10 w r) ∙ shuffled k (10 ^ w) (10 ^ r)) in
+    (a ∙ ap (λ (x : ℕ). k * x) (ap (λ (n : ℕ). 10 ^ n) (sym f) ∙ pow-add 10 w r) ∙ shuffled k (10 ^ w) (10 ^ r)) in
     counts_none (drop w ds) (left (joined 10 (take w ds)) (joined 10 (drop w ds)) k (10 ^ r) v (sym s ∙ b))
   where
     products : (x y z : ℕ) → x * y * z ≡ x * (y * z)
     products x y z = omega arith
+
     turned : (x y z : ℕ) → x * y * z ≡ x * z * y
     turned x y z = omega arith
+
     shuffled : (x y z : ℕ) → x * (y * z) ≡ x * z * y
     shuffled x y z = omega arith
+
     left : (j u k p : ℕ) → u < p → j * p + u ≡ k * p → u ≡ 0
     left j u k p lt e = sym (mod-mul-add j p u lt) ∙ ap (λ (x : ℕ). x % p) e ∙ mul-mod_left k p
 
 pub tells : (ds : List ℕ) (top q : ℕ) → Sized ds top q → AreZeros (drop (top - 16383) ds) ↔ Whole q
 tells ds top q h = elim (cases_lt top 16384) [
-    inl lt ↦ (whole_none ds top q h (omega arith), none_whole ds top q h (omega arith))
+  | inl lt ↦ (whole_none ds top q h (omega arith), none_whole ds top q h (omega arith))
   | inr ge ↦ elim (cases_lt (top - 16383) 38) [
-      inl lt ↦ (whole_some ds top q (top - 16383) (38 - (top - 16383)) h (omega arith) (omega arith), some_whole ds top q (top - 16383) (38 - (top - 16383)) h (omega arith) (omega arith))
-    | inr long ↦ (λ z. whole_long ds top q (top - 16383 - 38) h (omega arith), λ w. none_left (drop_all (top - 16383) ds (let c = h.count in omega arith))) ] ]
+    | inl lt ↦ (whole_some ds top q (top - 16383) (38 - (top - 16383)) h (omega arith) (omega arith), some_whole ds top q (top - 16383) (38 - (top - 16383)) h (omega arith) (omega arith))
+    | inr long ↦ (λ z. whole_long ds top q (top - 16383 - 38) h (omega arith), λ w. none_left (drop_all (top - 16383) ds (let c = h.count in omega arith)))
+  ]
+]
   where
     none_left : {es : List ℕ} → es ≡ [] → AreZeros es
     none_left {es} e = subst (λ (xs : List ℕ). AreZeros xs) (sym e) (All-nil (λ d. d ≡ 0))
 
 sized : (a : Inside) (d : ℤ) → IsFields a → parts_of a ≡ d → (q : ℕ) × Sized a.digits a.top q × (d ≡ signed a.negative q)
 unfolding parts_of
-sized a d h e =
-    (h.exact.0,
-     record { count = h.count; below = h.below; size = h.exact.1 },
-     sym e ∙ ap (λ (x : ℕ). signed a.negative x) (size_is a.digits a.top h.exact.0 h.exact.1))
+sized a d h e = (
+  h.exact.0,
+  record { count = h.count; below = h.below; size = h.exact.1 },
+  sym e ∙ ap (λ (x : ℕ). signed a.negative x) (size_is a.digits a.top h.exact.0 h.exact.1),
+)
 
 whole_of : (d : ℤ) → Whole (nat_abs d) → IsWhole (exactly d)
 unfolding exactly parts
-whole_of d (k, e) =
-    (signed (int_lt d (pos 0)) k,
-     sign_abs d ∙ ap (λ (x : ℕ). signed (int_lt d (pos 0)) x) e ∙ sym (signed_times (int_lt d (pos 0)) k parts))
+whole_of d (k, e) = (
+  signed (int_lt d (pos 0)) k,
+  sign_abs d ∙ ap (λ (x : ℕ). signed (int_lt d (pos 0)) x) e ∙ sym (signed_times (int_lt d (pos 0)) k parts),
+)
 
 of_whole : (d : ℤ) → IsWhole (exactly d) → Whole (nat_abs d)
 unfolding exactly parts
@@ -199,7 +213,8 @@ limits a d h e =
     let n : nat_abs d ≡ q = ap nat_abs f ∙ abs_signed a.negative q in
     record {
       narrow = subst HasNarrowDigits (sym n) (narrow_back q 38 (a.top, joined 10 a.digits, sym s.size, wide a.digits a.top q s));
-      below = subst (λ (x : ℕ). x < limit) (sym n) (below_limit q a.top (high a.digits a.top q s) h.low) }
+      below = subst (λ (x : ℕ). x < limit) (sym n) (below_limit q a.top (high a.digits a.top q s) h.low);
+    }
   where
     wide : (ds : List ℕ) (top q : ℕ) → Sized ds top q → q * 10 ^ 38 < 10 ^ (38 + top)
     wide ds top q s = subst (λ (x : ℕ). q * 10 ^ 38 < x) (sym (pow-add 10 38 top))

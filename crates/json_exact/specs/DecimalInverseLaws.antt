@@ -26,9 +26,10 @@ count n = count_in n n
 
 unfoldable pub fields_of : ℤ → Inside
 fields_of d = record {
-    negative = int_lt d (pos 0);
-    digits = spread 10 38 (nat_abs d * 10 ^ 38 / 10 ^ count (nat_abs d));
-    top = count (nat_abs d) }
+  negative = int_lt d (pos 0);
+  digits = spread 10 38 (nat_abs d * 10 ^ 38 / 10 ^ count (nat_abs d));
+  top = count (nat_abs d);
+}
 
 pub ten_pos : (b : ℕ) → 0 < 10 ^ b
 ten_pos zero = omega arith
@@ -130,14 +131,14 @@ back m ds top q len below e (inl z) =
     let a : nat_abs (signed m q) ≡ 0 = abs_signed m q ∙ q0 in
     let c : count (nat_abs (signed m q)) ≡ 0 = ap count a ∙ count_none in
     same (int_lt (signed m q) (pos 0)) m
-        (spread 10 38 (nat_abs (signed m q) * 10 ^ 38 / 10 ^ count (nat_abs (signed m q)))) ds (count (nat_abs (signed m q))) top
-        (ap (λ (x : ℕ). int_lt (signed m x) (pos 0)) q0 ∙ ap (λ (b : Bool). int_lt (signed b 0) (pos 0)) z.plus ∙ sym z.plus)
-        (ap (λ (x : ℕ). spread 10 38 (nat_abs (signed m q) * 10 ^ 38 / 10 ^ x)) c
-         ∙ ap (λ (x : ℕ). spread 10 38 (x * 10 ^ 38 / 10 ^ 0)) a
-         ∙ ap (λ (x : ℕ). spread 10 38 x) (sym z.nothing)
-         ∙ ap (λ (k : ℕ). spread 10 k (joined 10 ds)) (sym len)
-         ∙ spread_joined 10 ds below)
-        (c ∙ sym z.no_top)
+    (spread 10 38 (nat_abs (signed m q) * 10 ^ 38 / 10 ^ count (nat_abs (signed m q)))) ds (count (nat_abs (signed m q))) top
+    (ap (λ (x : ℕ). int_lt (signed m x) (pos 0)) q0 ∙ ap (λ (b : Bool). int_lt (signed b 0) (pos 0)) z.plus ∙ sym z.plus)
+    (ap (λ (x : ℕ). spread 10 38 (nat_abs (signed m q) * 10 ^ 38 / 10 ^ x)) c
+    ∙ ap (λ (x : ℕ). spread 10 38 (x * 10 ^ 38 / 10 ^ 0)) a
+    ∙ ap (λ (x : ℕ). spread 10 38 x) (sym z.nothing)
+    ∙ ap (λ (k : ℕ). spread 10 k (joined 10 ds)) (sym len)
+    ∙ spread_joined 10 ds below)
+    (c ∙ sym z.no_top)
 back m ds top q len below e (inr lo) =
     let hi : joined 10 ds < 10 ^ 38 = subst (λ (k : ℕ). joined 10 ds < 10 ^ k) len (joined_below 10 ds below) in
     let t : Top q top = top_of (joined 10 ds) q top e lo hi in
@@ -146,14 +147,14 @@ back m ds top q len below e (inr lo) =
     let c : count q ≡ top = count_is q t.under t.low t.high ∙ sym t.top_is in
     let d : q * 10 ^ 38 / 10 ^ top ≡ joined 10 ds = ap (λ (x : ℕ). x / 10 ^ top) (sym e) ∙ mul-div_cancel (joined 10 ds) (ten_pos top) in
     same (int_lt (signed m q) (pos 0)) m
-        (spread 10 38 (nat_abs (signed m q) * 10 ^ 38 / 10 ^ count (nat_abs (signed m q)))) ds (count (nat_abs (signed m q))) top
-        (sign_signed m q some)
-        (ap (λ (x : ℕ). spread 10 38 (x * 10 ^ 38 / 10 ^ count x)) a
-         ∙ ap (λ (x : ℕ). spread 10 38 (q * 10 ^ 38 / 10 ^ x)) c
-         ∙ ap (λ (x : ℕ). spread 10 38 x) d
-         ∙ ap (λ (k : ℕ). spread 10 k (joined 10 ds)) (sym len)
-         ∙ spread_joined 10 ds below)
-        (ap count a ∙ c)
+    (spread 10 38 (nat_abs (signed m q) * 10 ^ 38 / 10 ^ count (nat_abs (signed m q)))) ds (count (nat_abs (signed m q))) top
+    (sign_signed m q some)
+    (ap (λ (x : ℕ). spread 10 38 (x * 10 ^ 38 / 10 ^ count x)) a
+    ∙ ap (λ (x : ℕ). spread 10 38 (q * 10 ^ 38 / 10 ^ x)) c
+    ∙ ap (λ (x : ℕ). spread 10 38 x) d
+    ∙ ap (λ (k : ℕ). spread 10 k (joined 10 ds)) (sym len)
+    ∙ spread_joined 10 ds below)
+    (ap count a ∙ c)
 
 pub fields_of-parts_of : (a : Inside) → IsFields a → fields_of (parts_of a) ≡ a
 unfolding parts_of make

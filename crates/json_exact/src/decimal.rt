@@ -89,9 +89,17 @@ impl Decimal {
     {
         let kept = digits.digits;
         if digits.len == 0 {
-            Decimal { negative: false, digits: kept, top: 0 }
+            Decimal {
+                negative: false,
+                digits: kept,
+                top: 0,
+            }
         } else {
-            Decimal { negative, digits: kept, top: (digits.len as u128 + up - down) as u32 }
+            Decimal {
+                negative,
+                digits: kept,
+                top: (digits.len as u128 + up - down) as u32,
+            }
         }
     }
 
@@ -120,7 +128,10 @@ impl Decimal {
         ensures whole { IsTrue result ↔ IsWhole (exactly self.now) }
         ensures limits { IsWithinLimits self.now }
     {
-        ends_in_zeros(&self.digits, self.top.saturating_sub(FRACTION_DIGITS) as usize)
+        ends_in_zeros(
+            &self.digits,
+            self.top.saturating_sub(FRACTION_DIGITS) as usize,
+        )
     }
 }
 

@@ -39,7 +39,10 @@ impl Number {
         ensures places { result.places ≡ fraction_digits }
         ensures worth { IsWorth decimal result }
     {
-        Number { decimal, fraction_digits }
+        Number {
+            decimal,
+            fraction_digits,
+        }
     }
 
     /// The value, which forgets how many fraction digits are written.

@@ -19,7 +19,11 @@ impl SignificantDigits {
         ensures len { result.len ≡ 0 }
         ensures holds { Holds result.digits result.len result.too_wide 0 }
     {
-        SignificantDigits { digits: [0; 38], len: 0, too_wide: false }
+        SignificantDigits {
+            digits: [0; 38],
+            len: 0,
+            too_wide: false,
+        }
     }
 
     pub fn push(&mut self, digit: u8)

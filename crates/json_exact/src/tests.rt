@@ -12,7 +12,11 @@ fn decimals_are_their_values(rt: HostRuntime) {
     let zero = Decimal::from_groups(true, 0, &[]);
     let half = Decimal::from_groups(false, -1, &[0x88, 0x13]);
     let ten_to_38 = Decimal::from_groups(false, 9, &[100, 0]);
-    let one_more = Decimal::from_groups(false, 9, &[100, 0, 0, 0, 0, 0, 0, 0, 0, 0, 0, 0, 0, 0, 0, 0, 0, 0, 1, 0]);
+    let one_more = Decimal::from_groups(
+        false,
+        9,
+        &[100, 0, 0, 0, 0, 0, 0, 0, 0, 0, 0, 0, 0, 0, 0, 0, 0, 0, 1, 0],
+    );
     let table = [
         ("1", one, Some(true)),
         ("-1", minus_one, Some(true)),

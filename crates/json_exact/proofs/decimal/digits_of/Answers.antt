@@ -5,6 +5,7 @@ use Rattle.json_exact.proofs.decimal.digits_of.Goals as goal
 
 pub loop-rest-init : goal.loop-rest-init
 loop-rest-init c = record {
-    fit = c.requires.groups;
-    few = omega arith;
-    held = (0, c.new-digits.ensures.holds, after_zero 10000 (groups_of c.args.groups.now)) }
+  fit = c.requires.groups;
+  few = omega arith;
+  held = (0, c.new-digits.ensures.holds, after_zero 10000 (groups_of c.args.groups.now));
+}

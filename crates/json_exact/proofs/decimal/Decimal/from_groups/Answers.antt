@@ -1,11 +1,8 @@
-use Rattle.std.proofs.Common.{rules, ℕ, refl, sym, ap, subst, ◌∙◌, ◌≡◌, ℤ, nat_abs, w16, to_z, of_z, arith}
+use Rattle.std.proofs.Common.{rules, ℕ, refl, ap, ◌∙◌, ◌≡◌, ℤ, w16, to_z, of_z, arith}
 use mir.Val.{SFits}
 use Rattle.std.proofs.lemmas.Int.{to_z-of_z}
-use Rattle.json_model.specs.Decimal.{HasNarrowDigits}
-use Rattle.json_exact.specs.DecimalInverseLaws.{abs_signed}
 use Rattle.json_exact.specs.Digits.{joined}
 use Rattle.json_exact.specs.Groups.{groups_of, lifted}
-use Rattle.json_exact.proofs.FieldLaws.{kept_narrow, keeps_of}
 use Rattle.json_exact.proofs.GroupLaws.{worth, not_narrow, even}
 use Rattle.json_exact.proofs.NarrowLaws.{narrow_same}
 use Rattle.json_exact.proofs.decimal.Decimal.from_groups.Goals as goal
@@ -18,9 +15,12 @@ returns-then-digits-clause-value c = λ q e n. not_narrow _ _ _ _ c.digits_of-di
     (narrow_same (joined 10000 (groups_of c.args.groups.now)) q _ _ (worth c.args.weight c.args.groups.now _ q c.requires.groups refl e) n)
 
 pub from_digits-requires-clause-exact : goal.from_digits-requires-clause-exact
-from_digits-requires-clause-exact c =
-    (joined 10000 (groups_of c.args.groups.now), c.requires.exact.0, c.digits_of-digits.ensures.holds,
-     worth c.args.weight c.args.groups.now _ c.requires.exact.0 c.requires.groups (lifts _ c.args.weight (search rules) c.lifted.ensures.lifted) c.requires.exact.1)
+from_digits-requires-clause-exact c = (
+  joined 10000 (groups_of c.args.groups.now),
+  c.requires.exact.0,
+  c.digits_of-digits.ensures.holds,
+  worth c.args.weight c.args.groups.now _ c.requires.exact.0 c.requires.groups (lifts _ c.args.weight (search rules) c.lifted.ensures.lifted) c.requires.exact.1,
+)
 
 pub from_digits-requires-clause-low : goal.from_digits-requires-clause-low
 from_digits-requires-clause-low c = let h = even c.args.groups.now c.requires.groups in let g = c.digits_of-digits.ensures.len in let k = c.lifted.ensures.small in omega arith

@@ -1,4 +1,4 @@
-use Rattle.std.proofs.Common.{◌≡◌, refl, sym}
+use Rattle.std.proofs.Common.{refl, sym}
 use Rattle.json_exact.proofs.NumberLaws.{places_of, worth_of}
 use Rattle.json_exact.proofs.number.Number.new.Goals as goal
 

@@ -10,7 +10,6 @@ use Rattle.json_exact.proofs.DigitLaws.{ten_mono}
 use Rattle.json_exact.specs.DecimalFields.{parts_of, IsFields}
 use Rattle.json_exact.specs.DecimalInverseLaws.{ten_pos, joined_below, size_is}
 use Rattle.json_exact.specs.SignificantDigits.{Keeps, Holds, kept, lost}
-use Rattle.json_exact.proofs.NarrowLaws.{narrow_back}
 
 pub keeps_of : (ds : List ℕ) (len : ℕ) (w : Bool) (n : ℕ) → Holds ds len w n → w ≡ false → Keeps ds len n
 keeps_of ds len false n (kept h) e = h
@@ -103,8 +102,3 @@ fields_some m ds len n up down q p h e le =
 pub parts_some : (m : Bool) (ds : List ℕ) (len n up down q : ℕ) → 0 < len → Keeps ds len n → n * 10 ^ up ≡ q * 10 ^ down → parts_of (record { negative = m; digits = ds; top = len + up - down }) ≡ signed m q
 unfolding parts_of
 parts_some m ds len n up down q p h e = ap (λ (x : ℕ). signed m x) (size_is ds (len + up - down) q (some_is ds len n up down q p h e).exact)
-
-pub kept_narrow : (ds : List ℕ) (len n : ℕ) → Keeps ds len n → HasNarrowDigits n
-kept_narrow ds len n h =
-    let lt : joined 10 ds * 10 ^ len < 10 ^ 38 * 10 ^ len = mul-lt-mul_of_pos_right (joined_small ds len n h) (ten_pos len) in
-    narrow_back n 38 (len, joined 10 ds, h.size, subst (λ (x : ℕ). n * 10 ^ 38 < x) (sym (pow-add 10 38 len)) (subst (λ (x : ℕ). x < 10 ^ 38 * 10 ^ len) (sym h.size) lt))

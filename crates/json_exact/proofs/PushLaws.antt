@@ -10,12 +10,12 @@ use Rattle.json_exact.proofs.DigitLaws.{ten_mono}
 use Rattle.json_exact.proofs.NarrowLaws.{narrow_less}
 use Rattle.json_exact.specs.SignificantDigits.{Keeps, Holds, kept, lost}
 
-pub below_set : (b d : ℕ) (ds : List ℕ) (i : ℕ) → AllBelow b ds → d < b → AllBelow b (set ds i d)
+below_set : (b d : ℕ) (ds : List ℕ) (i : ℕ) → AllBelow b ds → d < b → AllBelow b (set ds i d)
 below_set b d [] i h lt = tt
 below_set b d (e ∷ ds) zero h lt = (lt, h.1)
 below_set b d (e ∷ ds) (suc i) h lt = (h.0, below_set b d ds i h.1 lt)
 
-pub joined_set : (b d : ℕ) (ds : List ℕ) (i r : ℕ) → length ds ≡ i + suc r → get_or ds i 0 ≡ 0 → joined b (set ds i d) ≡ joined b ds + d * b ^ r
+joined_set : (b d : ℕ) (ds : List ℕ) (i r : ℕ) → length ds ≡ i + suc r → get_or ds i 0 ≡ 0 → joined b (set ds i d) ≡ joined b ds + d * b ^ r
 joined_set b d [] i r len z = absurd (omega arith)
 joined_set b d (e ∷ ds) zero r len z =
     let l : length ds ≡ r = omega arith in
@@ -24,15 +24,6 @@ joined_set b d (e ∷ ds) (suc i) r len z =
     let l : length ds ≡ i + suc r = omega arith in
     let h = joined_set b d ds i r l z in
     rw (length-set ds i d, h) (omega arith)
-
-pub skip : (ds : List ℕ) (w : Bool) (n : ℕ) → Holds ds 0 w n → Holds ds 0 w (n * 10 + 0)
-skip ds false n (kept h) = elim h.lead [
-  | inl z ↦ let e : joined 10 ds * 10 ^ 0 ≡ 0 = rw (z.1) (omega arith) in
-      let s = h.size in let n0 : n ≡ 0 = omega arith in
-      kept (subst (λ (m : ℕ). Keeps ds 0 m) (let g : n ≡ n * 10 + 0 = omega arith in g) h)
-  | inr z ↦ absurd (let p = z.0 in omega arith)
-]
-skip ds true n (lost h) = let m = h.many in absurd (omega arith)
 
 above_none : (d : ℕ) → (d ≡ 0 → ⊥) → 0 < d
 above_none zero h = absurd (h refl)

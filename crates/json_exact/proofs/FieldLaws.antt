@@ -3,15 +3,14 @@ use Rattle.std.proofs.Common.{◌≡◌, ℕ, zero, suc, ◌+◌, ◌-◌, ◌*�
 use Rattle.std.proofs.Math.Nat.{mul-lt-mul_of_pos_right, mul-le-mul_right, eq_of_mul-eq-mul_right}
 use Rattle.std.proofs.lemmas.Nat.{pow-add}
 use Rattle.std.proofs.lemmas.Bool.{cases_lt}
-use Rattle.json_model.specs.Decimal.{HasNarrowDigits}
 use Rattle.json_exact.specs.Exact.{signed}
 use Rattle.json_exact.specs.Digits.{joined}
 use Rattle.json_exact.proofs.DigitLaws.{ten_mono}
 use Rattle.json_exact.specs.DecimalFields.{parts_of, IsFields}
 use Rattle.json_exact.specs.DecimalInverseLaws.{ten_pos, joined_below, size_is}
-use Rattle.json_exact.specs.SignificantDigits.{Keeps, Holds, kept, lost}
+use Rattle.json_exact.specs.SignificantDigits.{Keeps, Pushed, kept, lost}
 
-pub keeps_of : (ds : List ℕ) (len : ℕ) (w : Bool) (n : ℕ) → Holds ds len w n → w ≡ false → Keeps ds len n
+pub keeps_of : (ds : List ℕ) (len : ℕ) (w : Bool) (n : ℕ) → Pushed ds len w n → w ≡ false → Keeps ds len n
 keeps_of ds len false n (kept h) e = h
 keeps_of ds len true n (lost h) e = absurd cc
 

@@ -7,7 +7,7 @@ use Rattle.json_model.specs.Decimal.{HasNarrowDigits}
 use Rattle.json_exact.specs.Exact.{parts}
 use Rattle.json_exact.specs.Digits.{joined}
 use Rattle.json_exact.specs.Groups.{groups_of, lifted, AreGroups, AreWorth}
-use Rattle.json_exact.specs.SignificantDigits.{Holds, kept, lost}
+use Rattle.json_exact.specs.SignificantDigits.{Pushed, kept, lost}
 
 pub fours : (n : ℕ) → 10000 ^ n ≡ 10 ^ (4 * n)
 fours zero = refl
@@ -53,7 +53,7 @@ worth weight bytes lift q h e w =
     products : (n p x : ℕ) → n * (p * x) ≡ p * (n * x)
     products n p x = omega arith
 
-pub not_narrow : (ds : List ℕ) (len n : ℕ) (w : Bool) → Holds ds len w n → w ≡ true → HasNarrowDigits n → ⊥
+pub not_narrow : (ds : List ℕ) (len n : ℕ) (w : Bool) → Pushed ds len w n → w ≡ true → HasNarrowDigits n → ⊥
 not_narrow ds len n false (kept h) e = absurd cc
 not_narrow ds len n true (lost h) e = h.wide
 

@@ -1,5 +1,5 @@
 -- What a push makes of the digits that are held.
-use Rattle.std.proofs.Common.{◌≡◌, ℕ, zero, suc, ◌+◌, ◌-◌, ◌*◌, ◌^◌, ◌<◌, ◌≤◌, ◌⊎◌, Bool, true, false, List, [], ◌∷◌, length, get_or, set, refl, sym, ap, subst, ◌∙◌, arith, inl, inr}
+use Rattle.std.proofs.Common.{◌≡◌, ℕ, zero, suc, ◌+◌, ◌-◌, ◌*◌, ◌^◌, ◌<◌, ◌≤◌, ◌⊎◌, Bool, true, false, List, [], ◌∷◌, length, get_or, set, refl, sym, ap, ◌∙◌, arith, inl, inr}
 use Rattle.std.proofs.Math.Nat.{pow-suc}
 use Rattle.std.proofs.lemmas.Nat.{pow-add, mul-le}
 use Rattle.std.proofs.Common.{get_or-set_other}
@@ -8,7 +8,7 @@ use Rattle.json_model.specs.Decimal.{HasNarrowDigits}
 use Rattle.json_exact.specs.Digits.{joined, AllBelow}
 use Rattle.json_exact.proofs.DigitLaws.{ten_mono}
 use Rattle.json_exact.proofs.NarrowLaws.{narrow_less}
-use Rattle.json_exact.specs.SignificantDigits.{Keeps, Holds, kept, lost}
+use Rattle.json_exact.specs.SignificantDigits.{Pushed, kept, lost}
 
 below_set : (b d : ℕ) (ds : List ℕ) (i : ℕ) → AllBelow b ds → d < b → AllBelow b (set ds i d)
 below_set b d [] i h lt = tt
@@ -29,7 +29,7 @@ above_none : (d : ℕ) → (d ≡ 0 → ⊥) → 0 < d
 above_none zero h = absurd (h refl)
 above_none (suc d) h = omega arith
 
-pub put : (ds : List ℕ) (len : ℕ) (w : Bool) (d n : ℕ) → len < 38 → d < 10 → (len ≡ 0 → d ≡ 0 → ⊥) → Holds ds len w n → Holds (set ds len d) (len + 1) w (n * 10 + d)
+pub put : (ds : List ℕ) (len : ℕ) (w : Bool) (d n : ℕ) → len < 38 → d < 10 → (len ≡ 0 → d ≡ 0 → ⊥) → Pushed ds len w n → Pushed (set ds len d) (len + 1) w (n * 10 + d)
 put ds len false d n lt small some (kept h) =
     let r = 37 - len in
     let i : length ds ≡ len + suc r = let c = h.count in omega arith in
@@ -52,14 +52,14 @@ put ds len false d n lt small some (kept h) =
     leads (inr z) = let p = z.1 in omega arith
 put ds len true d n lt small some (lost h) = let m = h.many in absurd (omega arith)
 
-pub more : (ds : List ℕ) (len : ℕ) (w : Bool) (n : ℕ) → 38 ≤ len → Holds ds len w n → Holds ds (len + 1) w (n * 10 + 0)
+pub more : (ds : List ℕ) (len : ℕ) (w : Bool) (n : ℕ) → 38 ≤ len → Pushed ds len w n → Pushed ds (len + 1) w (n * 10 + 0)
 more ds len false n le (kept h) = kept (record { count = h.count; below = h.below; size = (let q : 10 ^ (len + 1) ≡ 10 ^ len * 10 = pow-add 10 len 1 in step n (joined 10 ds) (10 ^ 38) (10 ^ len) (10 ^ (len + 1)) h.size q); lead = (elim h.lead [ inl z ↦ inl (absurd (let p = z.0 in omega arith)) | inr z ↦ inr (omega arith, z.1) ]); rest = λ k l. h.rest k (omega arith) })
   where
     step : (n j a b c : ℕ) → n * a ≡ j * b → c ≡ b * 10 → (n * 10 + 0) * a ≡ j * c
     step n j a b c e f = rw f (omega arith)
 more ds len true n le (lost h) = lost (record { many = omega (arith, h.many); wide = λ a. h.wide (narrow_less n 0 (omega arith) a) })
 
-pub over : (ds : List ℕ) (len : ℕ) (w : Bool) (d n : ℕ) → 38 ≤ len → d < 10 → (d ≡ 0 → ⊥) → Holds ds len w n → Holds ds (len + 1) true (n * 10 + d)
+pub over : (ds : List ℕ) (len : ℕ) (w : Bool) (d n : ℕ) → 38 ≤ len → d < 10 → (d ≡ 0 → ⊥) → Pushed ds len w n → Pushed ds (len + 1) true (n * 10 + d)
 over ds len false d n le small some (kept h) = lost (record { many = omega arith; wide = too })
   where
     too : HasNarrowDigits (n * 10 + d) → ⊥
@@ -70,5 +70,5 @@ over ds len false d n le small some (kept h) = lost (record { many = omega arith
     too (suc b, k, e, lt) = let f = pow-suc 10 b in let g : k * 10 ^ suc b ≡ k * 10 ^ b * 10 = rw f (omega arith) in some (omega arith)
 over ds len true d n le small some (lost h) = lost (record { many = omega (arith, h.many); wide = λ a. h.wide (narrow_less n d small a) })
 
-pub none_yet : (ds : List ℕ) → length ds ≡ 38 → AllBelow 10 ds → joined 10 ds ≡ 0 → ((k : ℕ) → get_or ds k 0 ≡ 0) → Holds ds 0 false 0
+pub none_yet : (ds : List ℕ) → length ds ≡ 38 → AllBelow 10 ds → joined 10 ds ≡ 0 → ((k : ℕ) → get_or ds k 0 ≡ 0) → Pushed ds 0 false 0
 none_yet ds len below z rest = kept (record { count = len; below = below; size = rw z (omega arith); lead = inl (refl, z); rest = λ k h. rest k })

@@ -46,7 +46,7 @@ fn digits_of(groups: &[u8]) -> SignificantDigits
     requires len { length groups.now < 2 ^ 63 }
     requires groups { AreGroups groups.now }
     ensures len { result.len ≤ 2 * length groups.now }
-    ensures holds { Holds result.digits result.len result.too_wide (joined 10000 (groups_of groups.now)) }
+    ensures holds { Holds result (joined 10000 (groups_of groups.now)) }
 {
     let mut digits = SignificantDigits::new();
     let mut rest = groups;
@@ -57,12 +57,11 @@ fn digits_of(groups: &[u8]) -> SignificantDigits
     digits
 }
 
-/// How far a weight lies above the least that an `i16` has.
-fn lifted(weight: i16) -> u64
-    ensures small { result < 2 ^ 16 }
-    ensures lifted { result ≡ lifted weight }
+/// How far a weight lies above the least one.
+fn lifted(weight: i16) -> u16
+    ensures { result ≡ lifted weight }
 {
-    (i32::from(weight) + 0x8000) as u64
+    weight.abs_diff(i16::MIN)
 }
 
 /// Whether all digits from an index on are 0.
@@ -82,9 +81,9 @@ impl Decimal {
         requires up { up < 2 ^ 100 }
         requires down { down < 2 ^ 100 }
         requires kept { digits.too_wide ≡ false }
-        requires exact { (n q : ℕ) × Holds digits.digits digits.len digits.too_wide n × (n * 10 ^ up ≡ q * 10 ^ down) }
+        requires exact { (n q : ℕ) × Holds digits n × (n * 10 ^ up ≡ q * 10 ^ down) }
         requires low { digits.len + up ≤ 147455 + down }
-        ensures value { (n q : ℕ) → Holds digits.digits digits.len digits.too_wide n → n * 10 ^ up ≡ q * 10 ^ down → result ≡ signed negative q }
+        ensures value { (n q : ℕ) → Holds digits n → n * 10 ^ up ≡ q * 10 ^ down → result ≡ signed negative q }
         ensures limits { IsWithinLimits result }
     {
         let kept = digits.digits;
@@ -111,7 +110,8 @@ impl Decimal {
     pub fn from_groups(negative: bool, weight: i16, groups: &[u8]) -> Option<Decimal>
         requires groups { AreGroups groups.now }
         requires exact { (q : ℕ) × AreWorth weight (groups_of groups.now) q }
-        ensures value { (q : ℕ) → AreWorth weight (groups_of groups.now) q → MatchOption result (¬ HasNarrowDigits q) (λ d. d ≡ signed negative q) }
+        ensures value { (q : ℕ) → AreWorth weight (groups_of groups.now) q →
+            MatchOption result (¬ HasNarrowDigits q) (λ d. d ≡ signed negative q) }
         ensures limits { IfSome result (λ d. IsWithinLimits d) }
     {
         let digits = digits_of(groups);
@@ -126,6 +126,8 @@ impl Decimal {
     /// Whether the value is whole, as that of `1.0` is.
     pub fn is_integer(&self) -> bool
         ensures whole { IsTrue result ↔ IsWhole (exactly self.now) }
+
+        // What is true of each `Decimal`.
         ensures limits { IsWithinLimits self.now }
     {
         ends_in_zeros(

@@ -17,7 +17,7 @@ pub struct SignificantDigits {
 impl SignificantDigits {
     pub fn new() -> SignificantDigits
         ensures len { result.len ≡ 0 }
-        ensures holds { Holds result.digits result.len result.too_wide 0 }
+        ensures holds { Holds result 0 }
     {
         SignificantDigits {
             digits: [0; 38],
@@ -30,7 +30,7 @@ impl SignificantDigits {
         requires digit { digit < 10 }
         requires room { self.old.len + 1 < 2 ^ 64 }
         ensures len { self.new.len ≤ self.old.len + 1 }
-        ensures holds { (n : ℕ) → Holds self.old.digits self.old.len self.old.too_wide n → Holds self.new.digits self.new.len self.new.too_wide (n * 10 + digit) }
+        ensures holds { (n : ℕ) → Holds self.old n → Holds self.new (n * 10 + digit) }
     {
         if self.len == 0 && digit == 0 {
             return;
@@ -48,7 +48,7 @@ impl SignificantDigits {
         requires group { group < 10000 }
         requires room { self.old.len + 4 < 2 ^ 64 }
         ensures len { self.new.len ≤ self.old.len + 4 }
-        ensures holds { (n : ℕ) → Holds self.old.digits self.old.len self.old.too_wide n → Holds self.new.digits self.new.len self.new.too_wide (n * 10000 + group) }
+        ensures holds { (n : ℕ) → Holds self.old n → Holds self.new (n * 10000 + group) }
     {
         self.push((group / 1000) as u8);
         self.push((group / 100 % 10) as u8);

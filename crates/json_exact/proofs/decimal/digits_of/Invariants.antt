@@ -9,7 +9,7 @@ abbrev pub invariant-loop-rest : goal.invariant-loop-rest
 invariant-loop-rest l = record {
   fit : AreGroups l.rest;
   few : l.digits.len + 2 * length l.rest ≤ 2 * length l.groups;
-  held : (n : ℕ) × Holds l.digits.digits l.digits.len l.digits.too_wide n × (after 10000 n (groups_of l.rest) ≡ joined 10000 (groups_of l.groups));
+  held : (n : ℕ) × Holds l.digits n × (after 10000 n (groups_of l.rest) ≡ joined 10000 (groups_of l.groups));
 }
 
 abbrev pub decreases-loop-rest : goal.decreases-loop-rest

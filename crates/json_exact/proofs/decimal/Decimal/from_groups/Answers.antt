@@ -19,12 +19,12 @@ from_digits-requires-clause-exact c = (
   joined 10000 (groups_of c.args.groups.now),
   c.requires.exact.0,
   c.digits_of-digits.ensures.holds,
-  worth c.args.weight c.args.groups.now _ c.requires.exact.0 c.requires.groups (lifts _ c.args.weight (search rules) c.lifted.ensures.lifted) c.requires.exact.1,
+  worth c.args.weight c.args.groups.now _ c.requires.exact.0 c.requires.groups (lifts _ c.args.weight (search rules) c.lifted.ensures) c.requires.exact.1,
 )
 
 pub from_digits-requires-clause-low : goal.from_digits-requires-clause-low
-from_digits-requires-clause-low c = let h = even c.args.groups.now c.requires.groups in let g = c.digits_of-digits.ensures.len in let k = c.lifted.ensures.small in omega arith
+from_digits-requires-clause-low c = let h = even c.args.groups.now c.requires.groups in let g = c.digits_of-digits.ensures.len in omega arith
 
 pub returns-clause-value : goal.returns-clause-value
 returns-clause-value c = λ q e. c.from_digits.ensures.value _ q c.digits_of-digits.ensures.holds
-    (worth c.args.weight c.args.groups.now _ q c.requires.groups (lifts _ c.args.weight (search rules) c.lifted.ensures.lifted) e)
+    (worth c.args.weight c.args.groups.now _ q c.requires.groups (lifts _ c.args.weight (search rules) c.lifted.ensures) e)

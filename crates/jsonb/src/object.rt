@@ -63,6 +63,7 @@ impl<'a> JsonbObject<'a> {
     pub fn members(&self) -> JsonbMembers<'a>
         ensures pairs { members_left result ≡ pairs_of (object_tree self.now) }
         ensures rise { rises (map (λ p. p.0) (pairs_of (object_tree self.now))) ≡ true }
+        ensures few { length (pairs_of (object_tree self.now)) < 2 ^ 60 }
     {
         let Some(values) = pass(self.count, self.start) else {
             unreachable!()

@@ -1,6 +1,6 @@
 use Rattle.std.proofs.Common.{arith}
 use Rattle.jsonb.specs.Views.{place}
-use Rattle.jsonb.proofs.MemberLaws.{passes, members_stand, members_pairs, object_rises}
+use Rattle.jsonb.proofs.MemberLaws.{passes, members_stand, members_pairs, object_rises, object_length}
 use Rattle.jsonb.proofs.object.JsonbObject.members.Goals as goal
 
 pub unreachable-requires : goal.unreachable-requires
@@ -20,3 +20,6 @@ returns-clause-pairs c = members_pairs c.args.self.now.count (place c.args.self.
 
 pub returns-clause-rise : goal.returns-clause-rise
 returns-clause-rise c = object_rises c.args.self.now.count (place c.args.self.now.start) c.args.self.now.stands
+
+pub returns-clause-few : goal.returns-clause-few
+returns-clause-few c = omega (arith, c.args.self.now.index, object_length c.args.self.now.count (place c.args.self.now.start) c.args.self.now.stands)

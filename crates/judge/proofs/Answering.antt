@@ -1,0 +1,57 @@
+-- Each answer of `judge` is the right one.
+use Rattle.std.proofs.Common.{◌≡◌, ℕ, List, Bool, Option, Some, None, refl, sym, ap, subst, ◌∙◌, ◌⊎◌, inl, inr}
+use Rattle.std.specs.Prelude.{Result, Ok, Err, ◌↔◌, IsTrue}
+use Rattle.json_model.specs.Tree.{Tree}
+use Rattle.jsonb.specs.Root.{IsRead}
+use Rattle.jsonb.specs.declared.error.JsonbError.{JsonbError}
+use Rattle.jsonb.specs.declared.error.JsonbError.TheVariants as read
+use Rattle.judge.specs.Passes.{Passes, IsCompiled, HasThisFault}
+use Rattle.judge.specs.Right.{Answer, Right, keywords_error, document_error, keyword_error}
+use Rattle.judge.specs.Verdict.{Verdict}
+use Rattle.judge.specs.declared.checks.Checks.{Checks}
+use Rattle.judge.specs.declared.errors.JudgeError.{JudgeError}
+use Rattle.judge.specs.declared.errors.JudgeError.TheVariants as judged
+use Rattle.judge.specs.declared.errors.KeywordError.{KeywordError}
+
+-- want of memory, or right
+abbrev Answers : List ℕ → List ℕ → Answer → Type 0
+Answers k d r = (r ≡ Err judged.OutOfMemory) ⊎ Right k d r
+
+-- what a reader says: want of memory, or what is read
+abbrev Said : {X : Type 0} → List ℕ → Result X JsonbError → Result Tree JsonbError → Type 0
+Said b r s = (r ≡ Err read.OutOfMemory) ⊎ IsRead b s
+
+err_is : {A E : Type 0} (x y : E) → ◌≡◌ {A = Result A E} (Err x) (Err y) → x ≡ y
+err_is x y e = cc
+
+abbrev err : JudgeError → Answer
+err x = Err x
+
+module _ {X : Type 0} (k d : List ℕ) where
+  pub keywords_refused : (e : JsonbError) (x : JudgeError) → x ≡ keywords_error e → Said {X = X} k (Err e) (Err e) → Answers k d (Err x)
+  unfolding Right
+  keywords_refused e x is (inl h) = inl (ap err (is ∙ ap keywords_error (err_is e read.OutOfMemory h)))
+  keywords_refused e x is (inr h) = inr (Err e, h, ap err is)
+
+  module _ (node : X) (t : Tree) (said : Said {X = X} k (Ok node) (Ok t)) where
+    reads : IsRead k (Ok t)
+    reads = go said
+      where
+        go : Said {X = X} k (Ok node) (Ok t) → IsRead k (Ok t)
+        go (inl h) = absurd cc
+        go (inr h) = h
+
+    pub keyword_refused : (e : KeywordError) (x : JudgeError) → x ≡ keyword_error e → HasThisFault t e → Answers k d (Err x)
+    unfolding Right
+    keyword_refused e x is fault = inr (Ok t, reads, (Some e, fault, ap err is))
+
+    module _ (c : Checks) (compiled : IsCompiled t c) where
+      pub document_refused : (e : JsonbError) (x : JudgeError) → x ≡ document_error e → Said {X = X} d (Err e) (Err e) → Answers k d (Err x)
+      unfolding Right
+      document_refused e x is (inl h) = inl (ap err (is ∙ ap document_error (err_is e read.OutOfMemory h)))
+      document_refused e x is (inr h) = inr (Ok t, reads, (None, compiled.valid, (Err e, h, ap err is)))
+
+      pub verdict : (other : X) (u : Tree) (b : Bool) → Said {X = X} d (Ok other) (Ok u) → (IsTrue b ↔ Passes c u) → Answers k d (Ok b)
+      unfolding Right
+      verdict other u b (inl h) is = absurd cc
+      verdict other u b (inr h) is = inr (Ok t, reads, (None, compiled.valid, (Ok u, h, (b, refl, (λ x. (compiled.passes u).0 (is.0 x), λ x. is.1 ((compiled.passes u).1 x))))))

@@ -1,0 +1,3 @@
+pub mod Rising
+pub mod Compiling
+pub mod Answering

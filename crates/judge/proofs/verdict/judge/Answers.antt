@@ -1,0 +1,15 @@
+use Rattle.jsonb.specs.Nodes.{node_tree}
+use Rattle.judge.proofs.Answering.{keywords_refused, keyword_refused, document_refused, verdict}
+use Rattle.judge.proofs.verdict.judge.Goals as goal
+
+pub returns-in-Err-clause-right : goal.returns-in-Err-clause-right
+returns-in-Err-clause-right c = keywords_refused c.args.keywords.now c.args.document.now c.in-Err.error c.of_keywords.result c.of_keywords.ensures c.in-Err.ensures.read
+
+pub returns-in-Err-compile-clause-right : goal.returns-in-Err-compile-clause-right
+returns-in-Err-compile-clause-right c = keyword_refused c.args.keywords.now c.args.document.now c.in-Ok.root (node_tree c.in-Ok.root) c.in-Ok.ensures.read c.in-Err-compile.error c.of_keyword.result c.of_keyword.ensures c.in-Err-compile.ensures
+
+pub returns-in-Ok-root-clause-right : goal.returns-in-Ok-root-clause-right
+returns-in-Ok-root-clause-right c = verdict c.args.keywords.now c.args.document.now c.in-Ok.root (node_tree c.in-Ok.root) c.in-Ok.ensures.read c.in-Ok-compile.checks c.in-Ok-compile.ensures c.in-Ok-root.node (node_tree c.in-Ok-root.node) c.check.result c.in-Ok-root.ensures.read c.check.ensures
+
+pub returns-in-Err-root-clause-right : goal.returns-in-Err-root-clause-right
+returns-in-Err-root-clause-right c = document_refused c.args.keywords.now c.args.document.now c.in-Ok.root (node_tree c.in-Ok.root) c.in-Ok.ensures.read c.in-Ok-compile.checks c.in-Ok-compile.ensures c.in-Err-root.error c.of_document.result c.of_document.ensures c.in-Err-root.ensures.read

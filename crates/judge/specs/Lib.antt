@@ -1,0 +1,5 @@
+pub mod Names
+pub mod Verdict
+pub mod Validity
+pub mod Right
+pub mod Passes

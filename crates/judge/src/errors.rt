@@ -1,0 +1,107 @@
+//! Why no verdict is given.
+
+ghost use Rattle.std.specs.Prelude.{◌≡◌};
+ghost use Rattle.judge.specs.Right.{keywords_error, document_error, keyword_error};
+
+use jsonb::JsonbError;
+use thiserror::Error;
+
+/// What is wrong with bytes that should stand for a JSON tree.
+#[derive(Clone, Copy, Debug, PartialEq, Eq, Error)]
+pub enum Fault {
+    /// They stand for no tree, as the empty slice.
+    #[error("Malformed")]
+    Malformed,
+    /// A string or a key is not UTF-8, as in `01000050 01000080 ff`.
+    #[error("NotText")]
+    NotText,
+    /// A number has more than 38 digits from the first to the last that is not 0, as 10^38 + 1.
+    #[error("NumberTooWide")]
+    NumberTooWide,
+}
+
+/// Why a keyword object is refused. `member` is a member's place in key order, from 0.
+#[derive(Clone, Copy, Debug, PartialEq, Eq, Error)]
+pub enum KeywordError {
+    /// The keywords are no object, as `[]`.
+    #[error("NotAnObject")]
+    NotAnObject,
+    /// A member has none of the sixteen names, as in `{"x":1}`.
+    #[error("UnknownKeyword")]
+    UnknownKeyword { member: usize },
+    /// A member's value has not the form that its keyword asks for, as in `{"type":"x"}`.
+    #[error("BadKeyword")]
+    BadKeyword { member: usize },
+    /// A member has a name that is known and not built yet, or is `type` with a list.
+    #[error("Unbuilt")]
+    Unbuilt,
+    /// Memory is wanting.
+    #[error("OutOfMemory")]
+    OutOfMemory,
+}
+
+/// Why `judge` gives no verdict. The first cause that stands is answered: those of the keywords' bytes, those of the
+/// keyword object, of which the first faulty member in key order counts, and those of the document's bytes.
+#[derive(Clone, Copy, Debug, PartialEq, Eq, Error)]
+pub enum JudgeError {
+    /// The keywords' bytes are no JSON tree.
+    #[error("Keywords")]
+    Keywords(Fault),
+    /// The keywords are no object, as `00000040`, the empty array.
+    #[error("NotAnObject")]
+    NotAnObject,
+    /// The first faulty member has none of the sixteen names, as in `{"x":1}`.
+    #[error("UnknownKeyword")]
+    UnknownKeyword { member: usize },
+    /// The first faulty member's value has not the form that its keyword asks for, as in `{"type":"x"}`.
+    #[error("BadKeyword")]
+    BadKeyword { member: usize },
+    /// The document's bytes are no JSON tree.
+    #[error("Document")]
+    Document(Fault),
+    /// The first faulty member has a name that is known and not built yet, or is `type` with a list.
+    #[error("Unbuilt")]
+    Unbuilt,
+    /// Memory for the nesting of a slice is wanting.
+    #[error("OutOfMemory")]
+    OutOfMemory,
+}
+
+impl JudgeError {
+    /// What is wrong with the keywords' bytes.
+    pub(crate) fn of_keywords(error: JsonbError) -> JudgeError
+        ensures { result ≡ keywords_error error }
+    {
+        match error {
+            JsonbError::Malformed => JudgeError::Keywords(Fault::Malformed),
+            JsonbError::NotText => JudgeError::Keywords(Fault::NotText),
+            JsonbError::NumberTooWide => JudgeError::Keywords(Fault::NumberTooWide),
+            JsonbError::OutOfMemory => JudgeError::OutOfMemory,
+        }
+    }
+
+    /// What is wrong with the document's bytes.
+    pub(crate) fn of_document(error: JsonbError) -> JudgeError
+        ensures { result ≡ document_error error }
+    {
+        match error {
+            JsonbError::Malformed => JudgeError::Document(Fault::Malformed),
+            JsonbError::NotText => JudgeError::Document(Fault::NotText),
+            JsonbError::NumberTooWide => JudgeError::Document(Fault::NumberTooWide),
+            JsonbError::OutOfMemory => JudgeError::OutOfMemory,
+        }
+    }
+
+    /// What is wrong with the keyword object.
+    pub(crate) fn of_keyword(error: KeywordError) -> JudgeError
+        ensures { result ≡ keyword_error error }
+    {
+        match error {
+            KeywordError::NotAnObject => JudgeError::NotAnObject,
+            KeywordError::UnknownKeyword { member } => JudgeError::UnknownKeyword { member },
+            KeywordError::BadKeyword { member } => JudgeError::BadKeyword { member },
+            KeywordError::Unbuilt => JudgeError::Unbuilt,
+            KeywordError::OutOfMemory => JudgeError::OutOfMemory,
+        }
+    }
+}

@@ -1,0 +1,34 @@
+//! The verdict on two slices.
+
+ghost use Rattle.std.specs.Prelude.{◌≡◌, ◌≤◌, ◌⊎◌, Err};
+ghost use Rattle.json_model.specs.Nest.{nest};
+ghost use Rattle.json_model.specs.Tree.{Tree};
+ghost use Rattle.jsonb_layout.specs.Stands.{Stands};
+ghost use Rattle.judge.specs.Right.{Right};
+
+use crate::checks::Checks;
+use crate::errors::JudgeError;
+use jsonb::Jsonb;
+use std::alloc::Global;
+
+/// Whether the document is valid under the keyword object, both as PostgreSQL `jsonb` bytes, by JSON Schema 2020-12.
+///
+/// Both slices are read whole, in place, whether a keyword looks at a part or not. Memory is taken for their nesting
+/// alone: where no container of either stands inside another, none is.
+pub fn judge(alloc: Global, keywords: &[u8], document: &[u8]) -> Result<bool, JudgeError>
+    ensures right { (result ≡ Err JudgeError.OutOfMemory) ⊎ Right keywords.now document.now result }
+    ensures free { (t u : Tree) → Stands keywords.now t → nest t ≤ 1 → Stands document.now u → nest u ≤ 1 → result ≡ Err JudgeError.OutOfMemory → ⊥ }
+{
+    let root = match Jsonb::root(alloc, keywords) {
+        Ok(root) => root,
+        Err(error) => return Err(JudgeError::of_keywords(error)),
+    };
+    let checks = match Checks::compile(&root) {
+        Ok(checks) => checks,
+        Err(error) => return Err(JudgeError::of_keyword(error)),
+    };
+    match Jsonb::root(alloc, document) {
+        Ok(node) => Ok(checks.check(&node)),
+        Err(error) => Err(JudgeError::of_document(error)),
+    }
+}

@@ -1,5 +1,5 @@
--- Powers of ten.
-use Rattle.std.proofs.Common.{◌≡◌, ℕ, zero, suc, ◌+◌, ◌-◌, ◌*◌, ◌^◌, ◌<◌, ◌≤◌, subst, arith}
+-- Powers of ten, and numbers above 0.
+use Rattle.std.proofs.Common.{◌≡◌, ℕ, zero, suc, ◌+◌, ◌-◌, ◌*◌, ◌^◌, ◌<◌, ◌≤◌, refl, subst, arith}
 use Rattle.std.proofs.lemmas.Nat.{pow-add}
 use Rattle.json_exact.specs.DecimalInverseLaws.{ten_pos}
 
@@ -11,3 +11,8 @@ ten_mono a b le =
     at_least : (s m : ℕ) → 0 < m → s ≤ s * m
     at_least s zero p = absurd (omega arith)
     at_least s (suc m) p = omega arith
+
+-- what is not 0 is above it
+pub above_none : (d : ℕ) → (d ≡ 0 → ⊥) → 0 < d
+above_none zero h = absurd (h refl)
+above_none (suc d) h = omega arith

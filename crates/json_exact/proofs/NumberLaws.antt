@@ -16,16 +16,16 @@ use Rattle.json_exact.proofs.EqualityLaws.{differ}
 use Rattle.json_exact.proofs.WorthLaws.{one_record, one_value}
 
 -- c with f fraction digits is worth what it is with 16383 of them
-lifted : (d c : ℤ) (f : ℕ) → f ≤ 16383 → c *ℤ pos (10 ^ (16383 - f)) ≡ d → IsWorth d (record { digits = c; places = f })
+worth_of_multiple : (d c : ℤ) (f : ℕ) → f ≤ 16383 → c *ℤ pos (10 ^ (16383 - f)) ≡ d → IsWorth d (record { digits = c; places = f })
 unfolding parts
-lifted d c f le e =
+worth_of_multiple d c f le e =
     let i : 16383 - f + f ≡ 16383 = omega arith in
     ap (λ (x : ℤ). x *ℤ pos (10 ^ f)) (sym e) ∙ twice c (10 ^ (16383 - f)) (10 ^ f) ∙ ap (λ (x : ℕ). c *ℤ pos x) (sym (pow-add 10 (16383 - f) f) ∙ ap (λ (k : ℕ). 10 ^ k) i)
 
 pub worth_of : (n : Inside) (w : Written) → IsWrittenWith n → written_with n ≡ w → IsWorth n.decimal w
 unfolding written_with
 worth_of n w h e = subst (λ (w : Written). IsWorth n.decimal w) e
-    (lifted n.decimal (signed (int_lt n.decimal (pos 0)) (nat_abs n.decimal / 10 ^ (16383 - n.fraction_digits))) n.fraction_digits h.few
+    (worth_of_multiple n.decimal (signed (int_lt n.decimal (pos 0)) (nat_abs n.decimal / 10 ^ (16383 - n.fraction_digits))) n.fraction_digits h.few
     (divided_times n.decimal h.exact.0 (10 ^ (16383 - n.fraction_digits)) (ten_pos (16383 - n.fraction_digits)) h.exact.1))
 
 pub places_of : (n : Inside) (w : Written) → written_with n ≡ w → n.fraction_digits ≡ w.places

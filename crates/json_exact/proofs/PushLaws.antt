@@ -6,7 +6,7 @@ use Rattle.std.proofs.Common.{get_or-set_other}
 use Rattle.std.proofs.Math.ListN.{length-set}
 use Rattle.json_model.specs.Decimal.{HasNarrowDigits}
 use Rattle.json_exact.specs.Digits.{joined, AllBelow}
-use Rattle.json_exact.proofs.DigitLaws.{ten_mono}
+use Rattle.json_exact.proofs.DigitLaws.{ten_mono, above_none}
 use Rattle.json_exact.proofs.NarrowLaws.{narrow_less}
 use Rattle.json_exact.specs.SignificantDigits.{Pushed, kept, lost}
 
@@ -24,10 +24,6 @@ joined_set b d (e ∷ ds) (suc i) r len z =
     let l : length ds ≡ i + suc r = omega arith in
     let h = joined_set b d ds i r l z in
     rw (length-set ds i d, h) (omega arith)
-
-above_none : (d : ℕ) → (d ≡ 0 → ⊥) → 0 < d
-above_none zero h = absurd (h refl)
-above_none (suc d) h = omega arith
 
 pub put : (ds : List ℕ) (len : ℕ) (w : Bool) (d n : ℕ) → len < 38 → d < 10 → (len ≡ 0 → d ≡ 0 → ⊥) → Pushed ds len w n → Pushed (set ds len d) (len + 1) w (n * 10 + d)
 put ds len false d n lt small some (kept h) =

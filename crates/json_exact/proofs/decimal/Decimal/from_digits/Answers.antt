@@ -1,12 +1,9 @@
-use Rattle.std.proofs.Common.{ℕ, zero, suc, refl, subst, ◌<◌, ◌≡◌, arith}
+use Rattle.std.proofs.Common.{ℕ, refl, subst, arith}
 use Rattle.json_exact.specs.SignificantDigits.{Keeps}
+use Rattle.json_exact.proofs.DigitLaws.{above_none}
 use Rattle.json_exact.proofs.FieldLaws.{keeps_of, some_is, fields_none, fields_some, parts_none, parts_some}
 use Rattle.json_exact.proofs.WholeLaws.{limits}
 use Rattle.json_exact.proofs.decimal.Decimal.from_digits.Goals as goal
-
-above_none : (d : ℕ) → (d ≡ 0 → ⊥) → 0 < d
-above_none zero h = absurd (h refl)
-above_none (suc d) h = omega arith
 
 pub overflow_add-result : goal.overflow_add-result
 overflow_add-result c = let h = c.requires.low in let g = c.requires.down in omega arith

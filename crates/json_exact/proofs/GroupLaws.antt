@@ -1,0 +1,63 @@
+-- What groups are worth.
+use Rattle.std.proofs.Common.{◌≡◌, ℕ, zero, suc, ◌+◌, ◌*◌, ◌/◌, ◌^◌, Bool, true, false, List, [], ◌∷◌, length, refl, sym, ap, ◌∙◌, arith, ℤ}
+use Rattle.std.proofs.Math.Nat.{pow-suc}
+use Rattle.std.proofs.lemmas.Nat.{pow-add}
+use native.Mathlib.Numerals.{unary_clauses}
+use Rattle.json_model.specs.Decimal.{HasNarrowDigits}
+use Rattle.json_exact.specs.Exact.{parts}
+use Rattle.json_exact.specs.Digits.{joined}
+use Rattle.json_exact.specs.Groups.{groups_of, lifted, AreGroups, AreWorth}
+use Rattle.json_exact.specs.SignificantDigits.{Pushed, kept, lost}
+
+pub fours : (n : ℕ) → 10000 ^ n ≡ 10 ^ (4 * n)
+fours zero = refl
+fours (suc n) =
+    let e : 4 * suc n ≡ 4 * n + 4 = omega arith in
+    pow-suc 10000 n ∙ ap (λ (x : ℕ). x * 10000) (fours n) ∙ sym (pow-add 10 (4 * n) 4) ∙ ap (λ (k : ℕ). 10 ^ k) (sym e)
+
+pub many : (bytes : List ℕ) → AreGroups bytes → length (groups_of bytes) ≡ length bytes / 2
+many [] h = refl
+many (low ∷ []) h = absurd h
+many (low ∷ high ∷ bytes) h = let m = many bytes h.1 in omega arith
+
+-- the number that more digits behind n make
+abbrev pub after : ℕ → ℕ → List ℕ → ℕ
+after b n [] = n
+after b n (d ∷ ds) = after b (n * b + d) ds
+
+after_is : (b n : ℕ) (ds : List ℕ) → after b n ds ≡ n * b ^ length ds + joined b ds
+after_is b n [] = let e : b ^ 0 ≡ 1 = simp unary_clauses in rw e (omega arith)
+after_is b n (d ∷ ds) = after_is b (n * b + d) ds ∙ step n b d (b ^ length ds) (b ^ suc (length ds)) (joined b ds) (pow-suc b (length ds))
+  where
+    step : (n b d u w j : ℕ) → w ≡ u * b → (n * b + d) * u + j ≡ n * w + (d * u + j)
+    step n b d u w j e = rw e (omega arith)
+
+pub after_zero : (b : ℕ) (ds : List ℕ) → after b 0 ds ≡ joined b ds
+after_zero b ds = after_is b 0 ds ∙ none (b ^ length ds) (joined b ds)
+  where
+    none : (u j : ℕ) → 0 * u + j ≡ j
+    none u j = omega arith
+
+pub worth : (weight : ℤ) (bytes : List ℕ) (lift q : ℕ) → AreGroups bytes → lift ≡ lifted weight → AreWorth weight (groups_of bytes) q
+    → joined 10000 (groups_of bytes) * 10 ^ (16383 + 4 * (lift + 1)) ≡ q * 10 ^ (4 * (length bytes / 2 + 2 ^ 15))
+unfolding parts
+worth weight bytes lift q h e w =
+    ap (λ (x : ℕ). joined 10000 (groups_of bytes) * x) (pow-add 10 16383 (4 * (lift + 1)))
+    ∙ products (joined 10000 (groups_of bytes)) (10 ^ 16383) (10 ^ (4 * (lift + 1)))
+    ∙ ap (λ (x : ℕ). 10 ^ 16383 * (joined 10000 (groups_of bytes) * x)) (sym (fours (lift + 1)))
+    ∙ ap (λ (k : ℕ). 10 ^ 16383 * (joined 10000 (groups_of bytes) * 10000 ^ (k + 1))) e
+    ∙ sym w
+    ∙ ap (λ (x : ℕ). q * x) (fours (length (groups_of bytes) + 2 ^ 15))
+    ∙ ap (λ (k : ℕ). q * 10 ^ (4 * (k + 2 ^ 15))) (many bytes h)
+  where
+    products : (n p x : ℕ) → n * (p * x) ≡ p * (n * x)
+    products n p x = omega arith
+
+pub not_narrow : (ds : List ℕ) (len n : ℕ) (w : Bool) → Pushed ds len w n → w ≡ true → HasNarrowDigits n → ⊥
+not_narrow ds len n false (kept h) e = absurd cc
+not_narrow ds len n true (lost h) e = h.wide
+
+pub even : (bytes : List ℕ) → AreGroups bytes → length bytes ≡ 2 * (length bytes / 2)
+even [] h = refl
+even (low ∷ []) h = absurd h
+even (low ∷ high ∷ bytes) h = let m = even bytes h.1 in omega arith

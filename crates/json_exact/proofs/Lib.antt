@@ -1,0 +1,10 @@
+pub mod DigitLaws
+pub mod SignLaws
+pub mod NarrowLaws
+pub mod PushLaws
+pub mod FieldLaws
+pub mod GroupLaws
+pub mod EqualityLaws
+pub mod WholeLaws
+pub mod NumberLaws
+pub mod WorthLaws

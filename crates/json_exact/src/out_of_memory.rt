@@ -1,0 +1,8 @@
+//! `OutOfMemory`: a call could not get the memory that it needs.
+
+use thiserror::Error;
+
+/// Memory could not be had. The call that answers it leaves its inputs as they were.
+#[derive(Clone, Copy, Debug, PartialEq, Eq, Error)]
+#[error("OutOfMemory")]
+pub struct OutOfMemory;

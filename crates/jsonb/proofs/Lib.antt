@@ -7,3 +7,4 @@ pub mod StepLaws
 pub mod TreeCauses
 pub mod RootLaws
 pub mod OwnLaws
+pub mod NumberLaws

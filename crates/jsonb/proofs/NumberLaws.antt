@@ -1,5 +1,5 @@
 -- The exact value of a number's bytes.
-use Rattle.std.proofs.Common.{◌≡◌, ℕ, zero, suc, ◌+◌, ◌-◌, ◌*◌, ◌^◌, ◌<◌, ◌≤◌, Bool, true, ltb, leb, List, [], ◌∷◌, length, get_or, take, drop, Option, Some, None, refl, sym, ap, subst, ◌∙◌, arith, inl, inr, ℤ, pos, nat_abs, to_z, of_z}
+use Rattle.std.proofs.Common.{◌≡◌, ℕ, ◌+◌, ◌-◌, ◌*◌, ◌^◌, ◌<◌, ◌≤◌, Bool, true, ltb, leb, List, [], ◌∷◌, length, get_or, take, drop, Option, Some, None, refl, sym, ap, subst, ◌∙◌, arith, inl, inr, ℤ, pos, nat_abs, to_z, of_z}
 use mir.Val.{SFits}
 use Rattle.std.specs.Prelude.{◌&&◌, ◌*ℤ◌}
 use Rattle.std.specs.Int.{w16, from_le_bytes}
@@ -36,16 +36,15 @@ pub record SameGroups (b gs : List ℕ) : Type 0 where
   pub are : AreGroups b
 
 -- both crates read the same groups from bytes
-same_groups : (n : ℕ) (b gs : List ℕ) → length b ≤ n → groups_of b ≡ Some gs → all_below gs ≡ true → SameGroups b gs
+same_groups : (b gs : List ℕ) → groups_of b ≡ Some gs → all_below gs ≡ true → SameGroups b gs
 unfolding groups_of
-same_groups n [] gs le e h = record { same = some_is [] gs e; are = tt }
-same_groups n (x ∷ []) gs le e h = absurd cc
-same_groups zero (x ∷ y ∷ b) gs le e h = absurd (omega arith)
-same_groups (suc n) (x ∷ y ∷ b) gs le e h =
+same_groups [] gs e h = record { same = some_is [] gs e; are = tt }
+same_groups (x ∷ []) gs e h = absurd cc
+same_groups (x ∷ y ∷ b) gs e h =
     let a = bind_some (groups_of b) (λ gs. Some ((x + 256 * y) ∷ gs)) gs e in
     let is : (x + 256 * y) ∷ a.0 ≡ gs = some_is ((x + 256 * y) ∷ a.0) gs a.2 in
     let t = and_both (ltb (x + 256 * y) 10000) (all_below a.0) (ap all_below is ∙ h) in
-    let more = same_groups n b a.0 (omega arith) a.1 t.1 in
+    let more = same_groups b a.0 a.1 t.1 in
     record { same = ap (λ (gs : List ℕ). (x + 256 * y) ∷ gs) more.same ∙ is; are = (ltb-true (x + 256 * y) 10000 t.0, more.are) }
 
 -- ---- the header
@@ -129,7 +128,7 @@ pub record Says (h : Header) (weight : ℤ) (b : List ℕ) (d : Decimal) : Type 
 says : (h : Header) (weight : ℤ) (b gs : List ℕ) (d : Decimal) → lifted weight ≡ h.lift → h.dscale < 2 ^ 14 → groups_of b ≡ Some gs → are_groups gs ≡ true → value_of h gs ≡ Some d → IsNarrow d → Says h weight b d
 says h weight b gs d lift fits e fit value narrow =
     let below = (and_both (all_below gs) (ltb 0 (get_or gs 0 1)) (and_both (all_below gs && ltb 0 (get_or gs 0 1)) (ltb 0 (get_or gs (length gs - 1) 1)) fit).0).0 in
-    let same = same_groups (length b) b gs (omega arith) e below in
+    let same = same_groups b gs e below in
     let v = value_takes h gs d value in
     let few : h.dscale ≤ 16383 = omega arith in
     record {

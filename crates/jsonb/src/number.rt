@@ -15,11 +15,13 @@ pub struct JsonbNumber<'a> {
     ghost short: { length bytes.now < 2 ^ 28 },
 }
 
-impl<'a> JsonbNumber<'a> {
+impl JsonbNumber<'_> {
     ghost use Rattle.json_model.specs.Parts.{as_number};
     ghost use Rattle.jsonb.specs.Nodes.{number_tree};
 
-    /// The exact value, with the fraction digits that are written.
+    /// The exact value, with the fraction digits that are written: 1.50 has two, and 1.5 has one.
+    ///
+    /// It looks at each group once, takes no memory and validates nothing again.
     pub fn to_number(&self) -> Number
         ensures { as_number (number_tree self.now) ≡ Some result }
     {

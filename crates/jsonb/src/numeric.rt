@@ -6,10 +6,14 @@ ghost use Rattle.jsonb_layout.specs.Narrow.{is_narrow};
 ghost use Rattle.jsonb_layout.specs.Reading.{varlena_of, header_of, numeric_of};
 ghost use Rattle.jsonb.specs.NumberViews.{head, groups_fit_of, rest_of};
 
+/// What a numeric header says.
 #[derive(Clone, Copy)]
 pub struct Head {
+    /// Whether the number is below 0.
     pub minus: bool,
+    /// How many fraction digits are written.
     pub dscale: u16,
+    /// The weight plus 2^15.
     pub lift: u16,
 }
 
@@ -45,6 +49,7 @@ pub fn varlena(bytes: &[u8]) -> Option<&[u8]>
     }
 }
 
+/// The numeric header, and the bytes of the groups behind it.
 #[tactic(auto, unfolding(jsonb_layout::specs::Reading::header_of))]
 pub fn header(bytes: &[u8]) -> Option<(Head, &[u8])>
     ensures read { option_map (λ r. (head r.0, r.1.now)) result ≡ header_of bytes.now }

@@ -3,6 +3,7 @@ use Rattle.std.specs.Prelude.{◌≡◌, ℕ, ◌+◌, ◌*◌, ◌^◌, ◌<◌
 use Rattle.json_exact.specs.Exact.{parts}
 use Rattle.json_exact.specs.Digits.{joined}
 
+-- the groups that bytes hold
 abbrev pub groups_of : List ℕ → List ℕ
 groups_of [] = []
 groups_of (low ∷ []) = []

@@ -39,9 +39,10 @@ fn numbers_keep_their_fraction_digits(rt: HostRuntime) {
         panic!(rt; "1 is narrow");
     };
     let number = Number::new(one, 2);
+    let again = Number::new(number.decimal(), number.fraction_digits());
     assert!(rt; number.decimal() == one);
     assert_eq!(rt; number.fraction_digits(), 2);
-    assert!(rt; number == number);
+    assert!(rt; number == again);
     assert!(rt; number != Number::new(one, 0));
 }
 

@@ -1,8 +1,11 @@
 //! A number in a slice.
 
-ghost use Rattle.std.specs.Prelude.{◌<◌, ◌^◌, length};
+ghost use Rattle.std.specs.Prelude.{◌≡◌, ◌<◌, ◌^◌, length};
 ghost use Rattle.jsonb.specs.Values.{value_of, IsJsonTree};
 ghost use Rattle.jsonb.specs.declared.kind.Kind.TheVariants as kinds;
+
+use crate::numeric::{header, varlena};
+use json_exact::{Decimal, Number};
 
 /// A number in a slice: the bytes of its varlena. It borrows the slice.
 #[derive(Clone, Copy)]
@@ -10,4 +13,27 @@ pub struct JsonbNumber<'a> {
     pub(crate) bytes: &'a [u8],
     ghost stands: { IsJsonTree (value_of kinds.Number bytes.now) },
     ghost short: { length bytes.now < 2 ^ 28 },
+}
+
+impl JsonbNumber<'_> {
+    ghost use Rattle.json_model.specs.Parts.{as_number};
+    ghost use Rattle.jsonb.specs.Nodes.{number_tree};
+
+    /// The exact value, with the fraction digits that are written: 1.50 has two, and 1.5 has one.
+    ///
+    /// It looks at each group once, takes no memory and validates nothing again.
+    pub fn to_number(&self) -> Number
+        ensures { as_number (number_tree self.now) ≡ Some result }
+    {
+        let Some(body) = varlena(self.bytes) else {
+            unreachable!()
+        };
+        let Some((header, groups)) = header(body) else {
+            unreachable!()
+        };
+        let Some(decimal) = Decimal::from_groups(header.minus, header.weight(), groups) else {
+            unreachable!()
+        };
+        Number::new(decimal, header.dscale)
+    }
 }

@@ -1,20 +1,34 @@
 //! The bytes of a number.
 
 ghost use Rattle.std.specs.Prelude.{ℕ, ◌+◌, ◌-◌, ◌*◌, ◌%◌, ◌≡◌, ◌<◌, ◌≤◌, ◌^◌, length, not, option_map, IfSome, IsTrue, ◌==◌, ◌&&◌};
+ghost use Rattle.json_exact.specs.Groups.{lifted};
 ghost use Rattle.jsonb_layout.specs.Narrow.{is_narrow};
 ghost use Rattle.jsonb_layout.specs.Reading.{varlena_of, header_of, numeric_of};
 ghost use Rattle.jsonb.specs.NumberViews.{head, groups_fit_of, rest_of};
 
+/// What a numeric header says.
 #[derive(Clone, Copy)]
 pub struct Head {
+    /// Whether the number is below 0.
     pub minus: bool,
+    /// How many fraction digits are written.
     pub dscale: u16,
+    /// The weight plus 2^15.
     pub lift: u16,
+}
+
+impl Head {
+    /// The power of 10000 that the first group counts.
+    pub fn weight(self) -> i16
+        ensures { lifted result ≡ self.lift }
+    {
+        (self.lift as i32 - 0x8000) as i16
+    }
 }
 
 /// The bytes behind the varlena header.
 #[tactic(auto, unfolding(jsonb_layout::specs::Reading::varlena_of))]
-fn varlena(bytes: &[u8]) -> Option<&[u8]>
+pub fn varlena(bytes: &[u8]) -> Option<&[u8]>
     requires { length bytes.now < 2 ^ 28 }
     ensures read { option_map (λ x. x.now) result ≡ varlena_of bytes.now }
     ensures len { IfSome result (λ x. length x.now ≤ length bytes.now) }
@@ -35,8 +49,9 @@ fn varlena(bytes: &[u8]) -> Option<&[u8]>
     }
 }
 
+/// The numeric header, and the bytes of the groups behind it.
 #[tactic(auto, unfolding(jsonb_layout::specs::Reading::header_of))]
-fn header(bytes: &[u8]) -> Option<(Head, &[u8])>
+pub fn header(bytes: &[u8]) -> Option<(Head, &[u8])>
     ensures read { option_map (λ r. (head r.0, r.1.now)) result ≡ header_of bytes.now }
     ensures len { IfSome result (λ r. length r.1.now ≤ length bytes.now) }
 {

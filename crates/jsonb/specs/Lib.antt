@@ -6,3 +6,4 @@ pub mod Values
 pub mod Nodes
 pub mod Root
 pub mod Reads
+pub mod HexText

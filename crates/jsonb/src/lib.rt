@@ -2,6 +2,7 @@
 #![tactic(auto)]
 
 mod array;
+pub mod encode;
 mod error;
 mod found;
 mod frame;

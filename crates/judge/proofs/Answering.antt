@@ -1,5 +1,5 @@
 -- Each answer of `judge` is the right one.
-use Rattle.std.proofs.Common.{◌≡◌, ℕ, List, Bool, Option, Some, None, refl, sym, ap, subst, ◌∙◌, ◌⊎◌, inl, inr}
+use Rattle.std.proofs.Common.{◌≡◌, ℕ, List, Bool, Some, None, refl, ap, ◌∙◌, ◌⊎◌, inl, inr}
 use Rattle.std.specs.Prelude.{Result, Ok, Err, ◌↔◌, IsTrue}
 use Rattle.json_model.specs.Tree.{Tree}
 use Rattle.jsonb.specs.Root.{IsRead}
@@ -7,7 +7,6 @@ use Rattle.jsonb.specs.declared.error.JsonbError.{JsonbError}
 use Rattle.jsonb.specs.declared.error.JsonbError.TheVariants as read
 use Rattle.judge.specs.Passes.{Passes, IsCompiled, HasThisFault}
 use Rattle.judge.specs.Right.{Answer, Right, keywords_error, document_error, keyword_error}
-use Rattle.judge.specs.Verdict.{Verdict}
 use Rattle.judge.specs.declared.checks.Checks.{Checks}
 use Rattle.judge.specs.declared.errors.JudgeError.{JudgeError}
 use Rattle.judge.specs.declared.errors.JudgeError.TheVariants as judged

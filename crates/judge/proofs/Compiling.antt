@@ -1,6 +1,6 @@
 -- What compiling keeps from member to member.
-use Rattle.std.proofs.Common.{arith, ◌≡◌, ℕ, ◌+◌, ◌-◌, ◌<◌, ◌≤◌, ◌^◌, zero, suc, List, [], ◌∷◌, ◌++◌, length, take, map, Option, Some, None, Bool, true, false, cond, refl, sym, ap, ◌∙◌, subst, bytes_eq}
-use Rattle.std.specs.Prelude.{codes, slice_get, IsSome, IsSomeAnd, IfSome, ◌↔◌}
+use Rattle.std.proofs.Common.{arith, ◌≡◌, ℕ, ◌+◌, ◌<◌, ◌^◌, List, [], ◌∷◌, ◌++◌, length, take, map, Option, Some, Bool, true, false, cond, refl, sym, ap, ◌∙◌, subst}
+use Rattle.std.specs.Prelude.{codes, slice_get, IsSome, IsSomeAnd, ◌↔◌}
 use Rattle.std.specs.List.{AllByRecursion}
 use Rattle.std.proofs.lemmas.List.{append-nil, append_assoc, length-append}
 use Rattle.std.proofs.lemmas.Slice.Eq.{bytes_eq-Decides}
@@ -10,8 +10,8 @@ use Rattle.json_model.proofs.KindLaws.{if_object_is, object_some}
 use Rattle.json_model.specs.Keys.{key_before, rises}
 use Rattle.judge.specs.Names.{keyword_of}
 use Rattle.judge.specs.Passes.{Passes, IsFree, Adds, Took, AddFault, IsFault, IsCompiled, HasThisFault}
-use Rattle.judge.specs.Validity.{HasFault, HasForm, IsBuilt, IsFair, IsFirst, IsUnknown, IsUnbuilt, IsBad}
-use Rattle.judge.specs.Verdict.{Holds, HoldsAt, Verdict}
+use Rattle.judge.specs.Validity.{IsFair, IsFirst, IsUnknown, IsUnbuilt, IsBad}
+use Rattle.judge.specs.Verdict.{Holds, HoldsAt}
 use Rattle.judge.specs.declared.checks.Checks.{Checks}
 use Rattle.judge.specs.declared.errors.KeywordError.{KeywordError}
 use Rattle.judge.specs.declared.errors.KeywordError.TheVariants.{NotAnObject, UnknownKeyword, BadKeyword, Unbuilt, OutOfMemory}
@@ -67,22 +67,22 @@ one_name false a n x w rest f e r h = r h
 
 key_is : (a : List ℕ) (w : Keyword) → keyword_of a ≡ Some w → a ≡ name_of w
 key_is a w =
-  one_name _ a _ «Type» w _ (bytes_eq-Decides a (codes "type")).0 refl (
-  one_name _ a _ Enum w _ (bytes_eq-Decides a (codes "enum")).0 refl (
-  one_name _ a _ Const w _ (bytes_eq-Decides a (codes "const")).0 refl (
-  one_name _ a _ Minimum w _ (bytes_eq-Decides a (codes "minimum")).0 refl (
-  one_name _ a _ Maximum w _ (bytes_eq-Decides a (codes "maximum")).0 refl (
-  one_name _ a _ ExclusiveMinimum w _ (bytes_eq-Decides a (codes "exclusiveMinimum")).0 refl (
-  one_name _ a _ ExclusiveMaximum w _ (bytes_eq-Decides a (codes "exclusiveMaximum")).0 refl (
-  one_name _ a _ MinLength w _ (bytes_eq-Decides a (codes "minLength")).0 refl (
-  one_name _ a _ MaxLength w _ (bytes_eq-Decides a (codes "maxLength")).0 refl (
-  one_name _ a _ MinItems w _ (bytes_eq-Decides a (codes "minItems")).0 refl (
-  one_name _ a _ MaxItems w _ (bytes_eq-Decides a (codes "maxItems")).0 refl (
-  one_name _ a _ MinProperties w _ (bytes_eq-Decides a (codes "minProperties")).0 refl (
-  one_name _ a _ MaxProperties w _ (bytes_eq-Decides a (codes "maxProperties")).0 refl (
-  one_name _ a _ UniqueItems w _ (bytes_eq-Decides a (codes "uniqueItems")).0 refl (
-  one_name _ a _ Required w _ (bytes_eq-Decides a (codes "required")).0 refl (
-  one_name _ a _ Pattern w _ (bytes_eq-Decides a (codes "pattern")).0 refl (λ h. cc))))))))))))))))
+    one_name _ a _ «Type» w _ (bytes_eq-Decides a (codes "type")).0 refl (
+    one_name _ a _ Enum w _ (bytes_eq-Decides a (codes "enum")).0 refl (
+    one_name _ a _ Const w _ (bytes_eq-Decides a (codes "const")).0 refl (
+    one_name _ a _ Minimum w _ (bytes_eq-Decides a (codes "minimum")).0 refl (
+    one_name _ a _ Maximum w _ (bytes_eq-Decides a (codes "maximum")).0 refl (
+    one_name _ a _ ExclusiveMinimum w _ (bytes_eq-Decides a (codes "exclusiveMinimum")).0 refl (
+    one_name _ a _ ExclusiveMaximum w _ (bytes_eq-Decides a (codes "exclusiveMaximum")).0 refl (
+    one_name _ a _ MinLength w _ (bytes_eq-Decides a (codes "minLength")).0 refl (
+    one_name _ a _ MaxLength w _ (bytes_eq-Decides a (codes "maxLength")).0 refl (
+    one_name _ a _ MinItems w _ (bytes_eq-Decides a (codes "minItems")).0 refl (
+    one_name _ a _ MaxItems w _ (bytes_eq-Decides a (codes "maxItems")).0 refl (
+    one_name _ a _ MinProperties w _ (bytes_eq-Decides a (codes "minProperties")).0 refl (
+    one_name _ a _ MaxProperties w _ (bytes_eq-Decides a (codes "maxProperties")).0 refl (
+    one_name _ a _ UniqueItems w _ (bytes_eq-Decides a (codes "uniqueItems")).0 refl (
+    one_name _ a _ Required w _ (bytes_eq-Decides a (codes "required")).0 refl (
+    one_name _ a _ Pattern w _ (bytes_eq-Decides a (codes "pattern")).0 refl (λ h. cc))))))))))))))))
 
 behind : (P : List ℕ → Type 0) (xs ys : List Pair) (p : Pair) → AllByRecursion P (map (λ (q : Pair). q.0) (xs ++ p ∷ ys)) → P p.0
 behind P [] ys p h = h.0
@@ -92,18 +92,19 @@ behind P (x ∷ xs) ys p h = behind P xs ys p h.1
 new_key : (xs ys : List Pair) (p : Pair) (w : Keyword) → rises (map (λ (q : Pair). q.0) (xs ++ p ∷ ys)) ≡ true → keyword_of p.0 ≡ Some w → AllByRecursion (λ (q : Pair). keyword_of q.0 ≡ Some w → ⊥) xs
 new_key [] ys p w h e = tt
 new_key (x ∷ xs) ys p w h e =
-    let keys = map (λ (q : Pair). q.0) (xs ++ p ∷ ys) in
-    (λ same. not_before x.0 p.0 (behind (λ y. key_before x.0 y ≡ true) xs ys p (rises_all x.0 keys h)) (key_is x.0 w same ∙ sym (key_is p.0 w e)),
-     new_key xs ys p w (rises_tail x.0 keys h) e)
+    let keys = map (λ (q : Pair). q.0) (xs ++ p ∷ ys) in (
+      λ same. not_before x.0 p.0 (behind (λ y. key_before x.0 y ≡ true) xs ys p (rises_all x.0 keys h)) (key_is x.0 w same ∙ sym (key_is p.0 w e)),
+      new_key xs ys p w (rises_tail x.0 keys h) e,
+    )
 
 -- ---- one member
 
 pub added : (old new : Checks) (w : Keyword) (p : Pair) → keyword_of p.0 ≡ Some w → Adds old w p.1 new → Took old p new
 added old new w p e a = record {
-    fair = rw e (a.built, a.form);
-    passes = λ d. (λ h. let r = (a.passes d).0 h in (r.0, rw e r.1), λ h. (a.passes d).1 (h.0, hold d h.1));
-    frees = λ u other free. a.frees u (λ same. other (e ∙ ap (λ (v : Keyword). let o : Option Keyword = Some v in o) (sym same))) free;
-  }
+  fair = rw e (a.built, a.form);
+  passes = λ d. (λ h. let r = (a.passes d).0 h in (r.0, rw e r.1), λ h. (a.passes d).1 (h.0, hold d h.1));
+  frees = λ u other free. a.frees u (λ same. other (e ∙ ap (λ (v : Keyword). let o : Option Keyword = Some v in o) (sym same))) free;
+}
   where
     hold : (d : Tree) → HoldsAt d p → Holds w p.1 d
     hold d h = rw e at h
@@ -131,7 +132,13 @@ pub record Walked (t : Tree) (checks : Checks) (place : ℕ) (left : List Pair) 
 
 pub starts : (t : Tree) (checks : Checks) (left : List Pair) → left ≡ pairs_of t → length (pairs_of t) < 2 ^ 60 → IsSome (as_object t) → rises (map (λ (q : Pair). q.0) (pairs_of t)) ≡ true → ((d : Tree) → Passes checks d) → ((w : Keyword) → IsFree w checks) → Walked t checks 0 left
 starts t checks left all few object rise passes free = record {
-  front = []; parts = sym all; place_is = refl; few = few; object = object; rise = rise; fair = tt;
+  front = [];
+  parts = sym all;
+  place_is = refl;
+  few = few;
+  object = object;
+  rise = rise;
+  fair = tt;
   passes = λ d. (λ _. tt, λ _. passes d);
   free = λ w _. free w;
 }
@@ -140,8 +147,8 @@ pub object_starts : (t u : Tree) (checks : Checks) (left : List Pair) → Some u
 object_starts t u checks left e all few rise passes free =
     let same : u ≡ t = if_object_is t e in
     starts t checks left (all ∙ ap pairs_of same) (subst (λ (x : Tree). length (pairs_of x) < 2 ^ 60) same few)
-      (subst IsSome (sym (object_some t e)) refl)
-      (subst (λ (x : Tree). rises (map (λ (q : Pair). q.0) (pairs_of x)) ≡ true) same rise) passes free
+    (subst IsSome (sym (object_some t e)) refl)
+    (subst (λ (x : Tree). rises (map (λ (q : Pair). q.0) (pairs_of x)) ≡ true) same rise) passes free
 
 module _ (t : Tree) (checks : Checks) (place : ℕ) (left more : List Pair) (p : Pair) (next : left ≡ p ∷ more) (s : Walked t checks place left) where
   parts_now : pairs_of t ≡ s.front ++ (p ∷ more)
@@ -161,11 +168,14 @@ module _ (t : Tree) (checks : Checks) (place : ℕ) (left more : List Pair) (p :
     front = s.front ++ p ∷ [];
     parts = parts_now ∙ sym (append_assoc s.front (p ∷ []) more);
     place_is = omega (arith, s.place_is, length-append s.front (p ∷ []));
-    few = s.few; object = s.object; rise = s.rise;
+    few = s.few;
+    object = s.object;
+    rise = s.rise;
     fair = all_snoc IsFair s.front p s.fair took.fair;
     passes = λ d. (
       λ h. (let q = (took.passes d).0 h in all_snoc (HoldsAt d) s.front p ((s.passes d).0 q.0) q.1),
-      λ h. (let q = all_front (HoldsAt d) s.front p h in (took.passes d).1 ((s.passes d).1 q.0, q.1)));
+      λ h. (let q = all_front (HoldsAt d) s.front p h in (took.passes d).1 ((s.passes d).1 q.0, q.1)),
+    );
     free = λ w h. (let q = all_front (λ (q : Pair). keyword_of q.0 ≡ Some w → ⊥) s.front p h in took.frees w q.1 (s.free w q.0));
   }
 

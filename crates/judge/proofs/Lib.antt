@@ -1,3 +1,4 @@
 pub mod Rising
 pub mod Compiling
 pub mod Answering
+pub mod TypeLaws

@@ -1,5 +1,5 @@
 -- Which documents pass compiled checks, and what compiling does. The code's own words.
-use Rattle.std.specs.Prelude.{List, ℕ, ◌≡◌, ◌↔◌, Option, Some, None, IfSome, ⊤}
+use Rattle.std.specs.Prelude.{List, ℕ, ◌≡◌, ◌↔◌, Some, None, IfSome, ⊤}
 use Rattle.json_model.specs.Tree.{Tree}
 use Rattle.judge.specs.Names.{keyword_of}
 use Rattle.judge.specs.Validity.{HasFault, HasForm, IsBuilt, IsFair, IsUnknown, IsUnbuilt, IsBad, IsValid}

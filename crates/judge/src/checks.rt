@@ -31,7 +31,12 @@ impl Checks {
     }
 
     /// Takes in a keyword with its value, which is member number `member`.
-    fn add(&mut self, keyword: Keyword, value: &JsonbNode<'_>, member: usize) -> Result<(), KeywordError>
+    fn add(
+        &mut self,
+        keyword: Keyword,
+        value: &JsonbNode<'_>,
+        member: usize,
+    ) -> Result<(), KeywordError>
         requires { IsFree keyword self.old }
         ensures ok { OnOk result (Adds self.old keyword (node_tree value.now) self.new) }
         ensures err { IfErr result (AddFault member keyword (node_tree value.now)) }
@@ -49,7 +54,12 @@ impl Checks {
     }
 
     /// Takes in member number `member`.
-    fn take_member(&mut self, name: &str, value: &JsonbNode<'_>, member: usize) -> Result<(), KeywordError>
+    fn take_member(
+        &mut self,
+        name: &str,
+        value: &JsonbNode<'_>,
+        member: usize,
+    ) -> Result<(), KeywordError>
         requires { (w : Keyword) → keyword_of name.now ≡ Some w → IsFree w self.old }
         ensures ok { OnOk result (Took self.old (name.now, node_tree value.now) self.new) }
         ensures err { IfErr result (IsFault member (name.now, node_tree value.now)) }

@@ -4,6 +4,7 @@ ghost use Rattle.std.specs.Prelude.{◌≡◌, ◌↔◌, IsTrue};
 ghost use Rattle.jsonb.specs.Nodes.{node_tree};
 ghost use Rattle.judge.specs.Names.{type_of};
 ghost use Rattle.judge.specs.Verdict.{IsOfType};
+ghost use Rattle.judge.specs.declared.json_type.JsonType.TheVariants as types;
 
 use jsonb::JsonbNode;
 
@@ -44,11 +45,21 @@ impl JsonType {
         match self {
             JsonType::Null => node.is_null(),
             JsonType::Boolean => node.as_boolean().is_some(),
-            JsonType::Integer => false,
+            JsonType::Integer => is_integer(node),
             JsonType::Number => node.is_number(),
             JsonType::String => node.is_string(),
             JsonType::Array => node.as_array().is_some(),
             JsonType::Object => node.as_object().is_some(),
         }
     }
+}
+
+/// Whether a value is a number whose value is whole.
+fn is_integer(node: &JsonbNode<'_>) -> bool
+    ensures { IsTrue result ↔ IsOfType types.Integer (node_tree node.now) }
+{
+    let Some(number) = node.as_number() else {
+        return false;
+    };
+    number.to_number().decimal().is_integer()
 }

@@ -1,7 +1,5 @@
-use Rattle.std.proofs.Common.{◌≡◌, arith, ap, sym, ◌∙◌, subst}
-use Rattle.json_model.specs.Tree.{Tree}
+use Rattle.std.proofs.Common.{arith, ap, ◌∙◌}
 use Rattle.jsonb.specs.Nodes.{node_tree, members_left, object_tree}
-use Rattle.jsonb.specs.declared.members.JsonbMembers.{JsonbMembers}
 use Rattle.judge.proofs.Compiling.{object_starts, free_now, fits_now, goes_on, stops, ends}
 use Rattle.judge.proofs.checks.Checks.compile.Goals as goal
 

@@ -1,0 +1,154 @@
+-- Hex texts are what `hex` decodes.
+use Rattle.std.proofs.Common.{◌≡◌, ◌⊎◌, inl, inr, ℕ, zero, suc, ◌+◌, ◌*◌, ◌/◌, ◌%◌, ◌<◌, List, [], ◌∷◌, length, take, slice_index, true, false, is_some, Option, Some, None, Ok, Err, refl, sym, ap, ◌∙◌, subst, arith}
+use Rattle.std.specs.List.{AllPass}
+use Rattle.std.specs.Str.{IsAscii, IsUtf8}
+use Rattle.std.proofs.lemmas.Bool.{false≢true, cases_eq}
+use Rattle.std.proofs.lemmas.Str.{IsUtf8-from_ascii}
+use Rattle.std.proofs.lemmas.Str.Ascii.{IsAscii-nil, IsAscii-cons}
+use Rattle.std.proofs.lemmas.List.Elements.{All-head, All-tail}
+use Rattle.hex.specs.declared.error.FromHexError.{FromHexError}
+use Rattle.hex.specs.declared.error.FromHexError.TheVariants.{InvalidHexCharacter, InvalidStringLength, OddLength, OutOfMemory}
+use Rattle.hex.specs.Hex.{decode_of, decode_pairs, hex_digit_value, is_hex_digit, pair_value}
+use Rattle.hex.proofs.Pairs.{cons_byte, decode_pairs-ok_pair}
+use Rattle.hex.proofs.HexLemmas.{decode_of-err, decode_of-even, decode_of-odd, decode_of-ok, decode_of-same}
+use Rattle.jsonb.specs.HexText.{IsFirstNotHex, IsHexPair, IsHexText}
+
+abbrev IsDigit : ℕ → Type 0
+IsDigit c = is_hex_digit c ≡ true
+
+pub even_hex : (text bytes : List ℕ) → IsHexText text bytes → length text % 2 ≡ 0
+even_hex [] [] h = refl
+even_hex [] (b ∷ bytes) h = absurd h
+even_hex (x ∷ []) [] h = absurd h
+even_hex (x ∷ []) (b ∷ bytes) h = absurd h
+even_hex (x ∷ y ∷ text) [] h = absurd h
+even_hex (x ∷ y ∷ text) (b ∷ bytes) h = let rest = even_hex text bytes h.1 in omega (arith, rest)
+
+-- ---- one pair
+
+pair_decodes : (x y byte i : ℕ) → IsHexPair x y byte → pair_value x y i ≡ Ok byte
+pair_decodes x y byte i h =
+    let whole : byte / 16 * 16 + byte % 16 ≡ byte = omega arith in
+    rw (h.0, h.1) (ap Ok whole)
+
+digit_reads : (o : Option ℕ) → is_some o ≡ true → (v : ℕ) × (o ≡ Some v)
+digit_reads (Some v) h = (v, refl)
+digit_reads None h = cc h
+
+digit_small : (c v : ℕ) → hex_digit_value c ≡ Some v → v < 16
+digit_small c v h = grind (arith)
+
+pair_reads : (x y : ℕ) → IsDigit x → IsDigit y → (byte : ℕ) × IsHexPair x y byte
+pair_reads x y hx hy =
+    let high = digit_reads (hex_digit_value x) hx in
+    let low = digit_reads (hex_digit_value y) hy in
+    let small = digit_small y low.0 low.1 in
+    let byte = high.0 * 16 + low.0 in
+    let upper : high.0 ≡ (high.0 * 16 + low.0) / 16 = omega arith in
+    let lower : low.0 ≡ (high.0 * 16 + low.0) % 16 = omega arith in
+    (high.0 * 16 + low.0, (high.1 ∙ ap Some upper, low.1 ∙ ap Some lower))
+
+-- ---- whole texts
+
+pairs_decode : (i : ℕ) (text bytes : List ℕ) → IsHexText text bytes → decode_pairs i text ≡ Ok bytes
+unfolding decode_pairs
+pairs_decode i [] [] h = refl
+pairs_decode i [] (b ∷ bytes) h = absurd h
+pairs_decode i (x ∷ []) [] h = absurd h
+pairs_decode i (x ∷ []) (b ∷ bytes) h = absurd h
+pairs_decode i (x ∷ y ∷ text) [] h = absurd h
+pairs_decode i (x ∷ y ∷ text) (b ∷ bytes) h =
+    decode_pairs-ok_pair i x y b text (pair_decodes x y b i h.0) ∙ ap (cons_byte b) (pairs_decode (i + 2) text bytes h.1)
+
+pub hex_decodes : (text bytes : List ℕ) → IsHexText text bytes → decode_of text ≡ Ok bytes
+hex_decodes text bytes h = decode_of-even text (even_hex text bytes h) ∙ pairs_decode 0 text bytes h
+
+digits_read : (text : List ℕ) → length text % 2 ≡ 0 → AllPass is_hex_digit text → (bytes : List ℕ) × IsHexText text bytes
+digits_read [] even h = ([], tt)
+digits_read (x ∷ []) even h = absurd (omega arith)
+digits_read (x ∷ y ∷ text) even h =
+    let after = All-tail IsDigit x (y ∷ text) h in
+    let byte = pair_reads x y (All-head IsDigit x (y ∷ text) h) (All-head IsDigit y text after) in
+    let rest = digits_read text (omega arith) (All-tail IsDigit y text after) in
+    (byte.0 ∷ rest.0, (byte.1, rest.1))
+
+pub decoded_hex : (text bytes : List ℕ) → decode_of text ≡ Ok bytes → IsHexText text bytes
+decoded_hex text bytes e =
+    let whole = decode_of-ok text bytes e in
+    let hex = digits_read text whole.0 whole.1 in
+    subst (λ b. IsHexText text b) (decode_of-same text hex.0 bytes (hex_decodes text hex.0 hex.1) e) hex.1
+
+-- ---- texts that are refused
+
+-- what each error of `hex` says of the text
+abbrev Tells : List ℕ → FromHexError → Type 0
+Tells text (InvalidHexCharacter c place) = IsFirstNotHex text place
+Tells text OddLength = length text % 2 ≡ 1
+Tells text InvalidStringLength = ⊥
+Tells text OutOfMemory = Unit {0}
+
+not_odd : (text : List ℕ) (c place : ℕ) → length text % 2 ≡ 1 → decode_of text ≡ Err (InvalidHexCharacter c place) → ⊥
+not_odd text c place odd e = let o = decode_of-odd text odd in cc
+
+even_refused : (text : List ℕ) (error : FromHexError) (c place : ℕ) → decode_of text ≡ Err error → error ≡ InvalidHexCharacter c place → length text % 2 ≡ 0
+even_refused text error c place e is =
+    elim (cases_eq (length text % 2) 1) [
+      | inl odd ↦ absurd (not_odd text c place odd (e ∙ ap Err is))
+      | inr even ↦ omega arith
+    ]
+
+refused : (text : List ℕ) (error : FromHexError) → decode_of text ≡ Err error → Tells text error
+refused text error e =
+    elim (decode_of-err text error e) [
+      | inl odd ↦ rw odd.1 odd.0
+      | inr there ↦
+          let place : there.0 ≡ 0 + there.0 = omega arith in
+          rw there.1 (rw (sym place) (record { even = even_refused text error _ _ e there.1; within = there.2; digits = there.4; here = there.3 }))
+    ]
+
+pub tells : (text : List ℕ) (error : FromHexError) → (error ≡ OutOfMemory) ⊎ (decode_of text ≡ Err error) → Tells text error
+tells text error (inl memory) = rw memory tt
+tells text error (inr e) = refused text error e
+
+-- a text of digits has no first byte that is no digit
+pub all_digits : (text : List ℕ) (place : ℕ) → AllPass is_hex_digit text → place < length text → is_hex_digit (slice_index text place) ≡ false → ⊥
+all_digits [] place h within here = absurd (omega arith)
+all_digits (x ∷ text) zero h within here = absurd (false≢true (sym here ∙ All-head IsDigit x text h))
+all_digits (x ∷ text) (suc place) h within here = all_digits text place (All-tail IsDigit x text h) (omega arith) here
+
+first_once : (text : List ℕ) (i j : ℕ) → i < length text → AllPass is_hex_digit (take i text) → is_hex_digit (slice_index text i) ≡ false
+    → j < length text → AllPass is_hex_digit (take j text) → is_hex_digit (slice_index text j) ≡ false → i ≡ j
+first_once [] i j lt h e lt' h' e' = absurd (omega arith)
+first_once (x ∷ text) zero zero lt h e lt' h' e' = refl
+first_once (x ∷ text) zero (suc j) lt h e lt' h' e' = absurd (false≢true (sym e ∙ All-head IsDigit x (take j text) h'))
+first_once (x ∷ text) (suc i) zero lt h e lt' h' e' = absurd (false≢true (sym e' ∙ All-head IsDigit x (take i text) h))
+first_once (x ∷ text) (suc i) (suc j) lt h e lt' h' e' =
+    ap suc (first_once text i j (omega arith) (All-tail IsDigit x (take i text) h) e (omega arith) (All-tail IsDigit x (take j text) h') e')
+
+pub one_first : (text : List ℕ) (i j : ℕ) → IsFirstNotHex text i → IsFirstNotHex text j → i ≡ j
+one_first text i j f g = first_once text i j f.within f.digits f.here g.within g.digits g.here
+
+pub hex_or_not : (text bytes : List ℕ) (place : ℕ) → IsHexText text bytes → IsFirstNotHex text place → ⊥
+hex_or_not text bytes place h first =
+    let whole = decode_of-ok text bytes (hex_decodes text bytes h) in
+    all_digits text place whole.1 first.within first.here
+
+-- ---- hex texts are ASCII
+
+digit_ascii : (c : ℕ) → IsDigit c → c < 128
+digit_ascii c h = grind (arith)
+
+ascii_digits : (text : List ℕ) → AllPass is_hex_digit text → IsAscii text
+ascii_digits [] h = IsAscii-nil
+ascii_digits (x ∷ text) h = IsAscii-cons x text (digit_ascii x (All-head IsDigit x text h)) (ascii_digits text (All-tail IsDigit x text h))
+
+pub IsUtf8-from_hex : (text bytes : List ℕ) → IsHexText text bytes → IsUtf8 text
+IsUtf8-from_hex text bytes h = IsUtf8-from_ascii text (ascii_digits text ((decode_of-ok text bytes (hex_decodes text bytes h)).1))
+
+-- ---- hex texts have no space
+
+digit_no_space : (c v : ℕ) → hex_digit_value c ≡ Some v → c ≡ 32 → ⊥
+digit_no_space c v h e = let none : hex_digit_value c ≡ None = ap hex_digit_value e in cc
+
+pub pair_no_space : (x y byte : ℕ) → IsHexPair x y byte → (x ≡ 32 → ⊥) × (y ≡ 32 → ⊥)
+pair_no_space x y byte h = (digit_no_space x (byte / 16) h.0, digit_no_space y (byte % 16) h.1)

@@ -1,4 +1,10 @@
-pub mod Rising
-pub mod Compiling
 pub mod Answering
+pub mod Compiling
+pub mod Cuts
+pub mod KnownBytes
+pub mod Pairs
+pub mod Rising
+pub mod Runs
+pub mod Steps
+pub mod Texts
 pub mod TypeLaws

@@ -3,3 +3,12 @@ pub mod Verdict
 pub mod Validity
 pub mod Right
 pub mod Passes
+pub mod Answers
+pub mod Faults
+pub mod Feeding
+pub mod Lines
+pub mod Memory
+pub mod Ran
+pub mod Status
+pub mod Steady
+pub mod Words

@@ -1,0 +1,84 @@
+-- Which lines are pairs of hex texts, and which words ask for a check.
+use Rattle.std.proofs.Common.{Bor, ◌≡◌, ◌⊎◌, inl, inr, ℕ, ◌<◌, ◌≤◌, List, [], ◌∷◌, ◌++◌, length, get_or, eqb, Bool, true, false, Option, Some, None, Result, Ok, Err, refl, sym, ap, ◌∙◌, subst, arith}
+use Rattle.std.specs.Prelude.{◌↔◌, IfOk, IsNone, IsSomeAnd, IsTrue, MatchOption, codes}
+use Rattle.std.specs.Result.{result_ok}
+use Rattle.std.specs.Cmp.Lexicographic.{same_text, other_text, pointwise}
+use Rattle.std.proofs.lemmas.Bool.{false≢true}
+use Rattle.jsonb.specs.HexText.{IsHexText}
+use Rattle.jsonb.proofs.HexTexts.{pair_no_space}
+use Rattle.judge.specs.declared.errors.JudgeError.{JudgeError}
+use Rattle.judge.specs.declared.errors.JudgeError.TheVariants.{OutOfMemory}
+use Rattle.judge.specs.Answers.{IsPair, LineAnswer, name_of}
+use Rattle.judge.specs.Feeding.{AnswersOne}
+use Rattle.judge.specs.Lines.{Lacks}
+use Rattle.judge.specs.Right.{Right}
+use Rattle.judge.specs.Words.{IsCheck}
+use Rattle.judge.proofs.Texts.{Lacks-cut, cut_once}
+
+-- a hex text has no space
+hex_lacks : (text bytes : List ℕ) → IsHexText text bytes → Lacks 32 text
+hex_lacks [] bytes h = tt
+hex_lacks (x ∷ []) [] h = absurd h
+hex_lacks (x ∷ []) (b ∷ bytes) h = absurd h
+hex_lacks (x ∷ y ∷ text) [] h = absurd h
+hex_lacks (x ∷ y ∷ text) (b ∷ bytes) h =
+    let no_space = pair_no_space x y b h.0 in
+    (no_space.0, (no_space.1, hex_lacks text bytes h.1))
+
+-- the parts of a pair are those around the first space
+pub parts_once : (line first second k d : List ℕ) → line ≡ first ++ 32 ∷ second → Lacks 32 first → IsPair line k d
+    → IsHexText first k × IsHexText second d
+parts_once line first second k d e lacks pair =
+    let same = cut_once 32 pair.first pair.second first second (hex_lacks pair.first k pair.keywords_text) lacks (sym pair.whole ∙ e) in
+    (subst (λ t. IsHexText t k) same.0 pair.keywords_text, subst (λ t. IsHexText t d) same.1 pair.document_text)
+
+-- a line with no space is no pair
+pub no_parts : (line k d : List ℕ) → Lacks 32 line → IsPair line k d → ⊥
+no_parts line k d lacks pair = Lacks-cut 32 pair.first pair.second (subst (λ t. Lacks 32 t) pair.whole lacks)
+
+-- ---- the answer to a pair
+
+no_name : (verdict : Result Bool JudgeError) (name : List ℕ) → verdict ≡ Err OutOfMemory → name_of verdict ≡ Some name → ⊥
+no_name verdict name memory named = let none : name_of verdict ≡ None = ap name_of memory in cc
+
+named_answer : (line k d : List ℕ) (verdict : Result Bool JudgeError) (name text : List ℕ) → IsPair line k d
+    → (verdict ≡ Err OutOfMemory) ⊎ Right k d verdict → name_of verdict ≡ Some name → text ≡ name ++ 10 ∷ [] → AnswersOne LineAnswer line text
+named_answer line k d verdict name text pair (inl memory) named is = absurd (no_name verdict name memory named)
+named_answer line k d verdict name text pair (inr right) named is =
+    record { answer = name; right = inl (record { keywords = k; document = d; verdict = verdict; pair = pair; right = right; named = named }); is = is }
+
+printed_name : (line k d : List ℕ) (verdict : Result Bool JudgeError) (name : Option (List ℕ)) (text : Bor (List ℕ)) → IsPair line k d
+    → (verdict ≡ Err OutOfMemory) ⊎ Right k d verdict → name_of verdict ≡ name
+    → MatchOption name (IsNone (Some text)) (λ n. IsSomeAnd (Some text) (λ t. t.now ≡ n ++ 10 ∷ [])) → AnswersOne LineAnswer line text.now
+printed_name line k d verdict None text pair right named h = cc
+printed_name line k d verdict (Some name) text pair right named h = named_answer line k d verdict name text.now pair right named h
+
+-- what is printed of the right answer to a pair answers the line
+printed_answer : (line k d : List ℕ) (verdict : Result Bool JudgeError) (o : Option (Bor (List ℕ))) (text : Bor (List ℕ)) → IsPair line k d
+    → (verdict ≡ Err OutOfMemory) ⊎ Right k d verdict
+    → MatchOption (name_of verdict) (IsNone o) (λ n. IsSomeAnd o (λ t. t.now ≡ n ++ 10 ∷ [])) → o ≡ Some text → AnswersOne LineAnswer line text.now
+printed_answer line k d verdict o text pair right printed e =
+    printed_name line k d verdict (name_of verdict) text pair right refl (subst (λ p. MatchOption (name_of verdict) (IsNone p) (λ n. IsSomeAnd p (λ t. t.now ≡ n ++ 10 ∷ []))) e printed)
+
+pub printed_answers : {E : Type 0} (line k d : List ℕ) (verdict : Result Bool JudgeError) (o : Option (Bor (List ℕ))) (result : Result (Bor (List ℕ)) E) → IsPair line k d
+    → (verdict ≡ Err OutOfMemory) ⊎ Right k d verdict
+    → MatchOption (name_of verdict) (IsNone o) (λ n. IsSomeAnd o (λ t. t.now ≡ n ++ 10 ∷ [])) → o ≡ result_ok result → IfOk result (λ text. AnswersOne LineAnswer line text.now)
+printed_answers line k d verdict o (Ok text) pair right printed e = printed_answer line k d verdict o text pair right printed e
+printed_answers line k d verdict o (Err error) pair right printed e = tt
+
+-- ---- words
+
+pub one_item : {X : Type 0} (items : List X) (x : X) → 1 ≤ length items → length items < 2 → x ≡ get_or items 0 x → items ≡ x ∷ []
+one_item [] x at_least below e = absurd (omega arith)
+one_item (y ∷ []) x at_least below e = ap (λ v. v ∷ []) (sym e)
+one_item (y ∷ z ∷ items) x at_least below e = absurd (omega arith)
+
+first_item : (a b : List ℕ) → a ∷ [] ≡ b ∷ [] → a ≡ b
+first_item a b e = cc
+
+pub check_alone : (word : List ℕ) (equal : Bool) → equal ≡ pointwise eqb word (codes "check") → IsTrue equal ↔ IsCheck (word ∷ [])
+check_alone word true e = (λ _. inr (ap (λ v. v ∷ []) (same_text word (codes "check") e)), λ _. refl)
+check_alone word false e = (
+  λ h. absurd (false≢true h),
+  λ h. elim h [ inl none ↦ cc | inr one ↦ absurd (other_text word (codes "check") e (first_item word (codes "check") one)) ],
+)

@@ -1,0 +1,12 @@
+use Rattle.std.proofs.Common.{◌≤◌, length}
+use Rattle.judge.proofs.Steps.{Fed}
+use Rattle.judge.proofs.lines.feed.Given as goal
+
+abbrev pub invariant-loop-part : goal.invariant-loop-part
+invariant-loop-part g l = record {
+  fed : Fed (g.T.LineTask.is_answer l.fn.task) l.fn.line.items l.piece l.rest l.line.items (g.K.Sink.written l.fn.sink) (g.K.Sink.written l.sink);
+  later : g.K.Sink.faults l.fn.sink ≤ g.K.Sink.faults l.sink;
+}
+
+abbrev pub decreases-loop-part : goal.decreases-loop-part
+decreases-loop-part g l = length l.rest

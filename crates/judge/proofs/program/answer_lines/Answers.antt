@@ -1,0 +1,37 @@
+use Rattle.std.proofs.Common.{◌<◌, length, take, arith}
+use Rattle.judge.proofs.Runs.{going_none, going_on, ran_read_fault, ran_too_much, ran_stopped, ran_done, ran_unfinished}
+use Rattle.judge.proofs.program.answer_lines.Goals as goal
+
+pub loop-turn-init : goal.loop-turn-init
+loop-turn-init g c = record { going = going_none _ _ _ c.new-line.ensures.items; later_source = omega arith; later_sink = omega arith }
+
+pub feed-requires : goal.feed-requires
+feed-requires g c = c.loop-turn.invariant.going.is_open
+
+pub loop-turn-preserved : goal.loop-turn-preserved
+loop-turn-preserved g c =
+    let bound = c.in-Ok.ensures.bound in
+    let some : 0 < length (take c.in-Ok.count c.read.new.buffer) = omega arith in
+    record { going = going_on _ _ _ _ _ _ _ _ _ _ c.loop-turn.invariant.going c.in-Ok.ensures.bytes.0 some c.in_default-feed.ensures.feeds c.in_default-feed.ensures.«open»; later_source = omega arith; later_sink = omega arith }
+
+pub returns-in_default-clause-ran : goal.returns-in_default-clause-ran
+returns-in_default-clause-ran g c = ran_read_fault _ _ _ _ _ _ _ c.loop-turn.invariant.going c.in_default.ensures.bytes
+
+pub returns-in-Err-feed-clause-ran : goal.returns-in-Err-feed-clause-ran
+returns-in-Err-feed-clause-ran g c = ran_stopped _ _ _ _ _ _ _ _ _ _ c.loop-turn.invariant.going c.in-Ok.ensures.bytes.0 c.in-Err-feed.ensures.stops
+
+pub returns-clause-ran : goal.returns-clause-ran
+returns-clause-ran g c = ran_too_much _ _ _ _ _ _ c.loop-turn.invariant.going c.loop-turn-test.false
+
+pub returns-in-Err-clause-ran : goal.returns-in-Err-clause-ran
+returns-in-Err-clause-ran g c =
+    let taken = rw c.if-count-eq0.true at c.in-Ok.ensures.bytes.0 in
+    let finishes = rw c.deref.ensures.value at c.finish.ensures.finishes in
+    ran_unfinished _ _ _ _ _ _ _ _ _ _ c.loop-turn.invariant.going taken finishes c.in-Err.is
+
+pub returns-then-count-eq0-clause-ran : goal.returns-then-count-eq0-clause-ran
+returns-then-count-eq0-clause-ran g c =
+    let taken = rw c.if-count-eq0.true at c.in-Ok.ensures.bytes.0 in
+    let finishes = rw c.deref.ensures.value at c.finish.ensures.finishes in
+    let room : 0 < length c.read.new.buffer = omega arith in
+    ran_done _ _ _ _ _ _ _ _ _ c.loop-turn.invariant.going taken (c.in-Ok.ensures.bytes.1 c.if-count-eq0.true room) finishes c.in_default-finish.is

@@ -1,0 +1,100 @@
+//! The answer to one line.
+ghost use Rattle.std.specs.Prelude.{◌≡◌, ◌∷◌, ◌++◌, [], ℕ, List, IfOk, IsNone, IsSomeAnd, MatchOption};
+ghost use Rattle.jsonb.specs.HexText.{IsHexText};
+ghost use Rattle.judge.specs.Answers.{IsPair, LineAnswer, name_of};
+ghost use Rattle.judge.specs.Feeding.{AnswersOne};
+
+use crate::cut::cut_at;
+use crate::{Fault, JudgeError, judge};
+use jsonb::encode::{HexError, decode_hex};
+use std::alloc::Global;
+use std::convert::AsSlice;
+
+#[derive(Drop)]
+pub(crate) struct NoMemory;
+
+// What answers the lines of a command.
+pub(crate) trait LineTask {
+    /// Which texts answer a line.
+    ghost is_answer: { Self → List ℕ → List ℕ → Type 0 };
+
+    /// An answer, which lends its bytes.
+    type Answer: AsSlice<u8> + Drop;
+
+    /// The answer to a line, with the end of a line.
+    fn answer(&self, alloc: Global, line: &[u8]) -> Result<Self::Answer, NoMemory>
+        ensures { IfOk result (λ text. AnswersOne (is_answer self.now) line.now (Self.Answer.items text)) };
+}
+
+// The command `check`.
+pub(crate) struct CheckTask;
+
+impl LineTask for CheckTask {
+    ghost is_answer = { λ _. LineAnswer };
+
+    type Answer = &'static [u8];
+
+    fn answer(&self, alloc: Global, line: &[u8]) -> Result<&'static [u8], NoMemory> {
+        let Some((keywords, document)) = read_pair(alloc, line)? else {
+            return Ok(b"bad line\n");
+        };
+        printed(judge(alloc, &keywords, &document)).ok_or(NoMemory)
+    }
+}
+
+// The bytes of the two hex texts of a line.
+fn read_pair(alloc: Global, line: &[u8]) -> Result<Option<(Vec<u8>, Vec<u8>)>, NoMemory>
+    ensures { IfOk result (λ pair. MatchOption pair
+        ((keywords document : List ℕ) → IsPair line.now keywords document → ⊥)
+        (λ both. IsPair line.now both.0.items both.1.items)) }
+{
+    let Some((first, second)) = cut_at(b' ', line) else {
+        return Ok(None);
+    };
+    let Some(keywords) = read_hex(alloc, first)? else {
+        return Ok(None);
+    };
+    let Some(document) = read_hex(alloc, second)? else {
+        return Ok(None);
+    };
+    Ok(Some((keywords, document)))
+}
+
+// The bytes of a hex text.
+fn read_hex(alloc: Global, text: &[u8]) -> Result<Option<Vec<u8>>, NoMemory>
+    ensures { IfOk result (λ read. MatchOption read
+        ((bytes : List ℕ) → IsHexText text.now bytes → ⊥)
+        (λ bytes. IsHexText text.now bytes.items)) }
+{
+    let Ok(text) = str::from_utf8(text) else {
+        return Ok(None);
+    };
+    match decode_hex(alloc, text) {
+        Ok(bytes) => Ok(Some(bytes)),
+        Err(HexError::OutOfMemory) => Err(NoMemory),
+        Err(HexError::OddLength | HexError::NotHex { .. }) => Ok(None),
+    }
+}
+
+// An answer's printed name, with the end of a line; want of memory has none.
+fn printed(verdict: Result<bool, JudgeError>) -> Option<&'static [u8]>
+    ensures { MatchOption (name_of verdict)
+        (IsNone result)
+        (λ name. IsSomeAnd result (λ text. text.now ≡ name ++ 10 ∷ [])) }
+{
+    match verdict {
+        Ok(true) => Some(b"valid\n"),
+        Ok(false) => Some(b"invalid\n"),
+        Err(JudgeError::Keywords(Fault::Malformed)) => Some(b"Keywords(Malformed)\n"),
+        Err(JudgeError::Keywords(Fault::NotText)) => Some(b"Keywords(NotText)\n"),
+        Err(JudgeError::Keywords(Fault::NumberTooWide)) => Some(b"Keywords(NumberTooWide)\n"),
+        Err(JudgeError::NotAnObject) => Some(b"NotAnObject\n"),
+        Err(JudgeError::UnknownKeyword { .. }) => Some(b"UnknownKeyword\n"),
+        Err(JudgeError::BadKeyword { .. }) => Some(b"BadKeyword\n"),
+        Err(JudgeError::Document(Fault::Malformed)) => Some(b"Document(Malformed)\n"),
+        Err(JudgeError::Document(Fault::NotText)) => Some(b"Document(NotText)\n"),
+        Err(JudgeError::Document(Fault::NumberTooWide)) => Some(b"Document(NumberTooWide)\n"),
+        Err(JudgeError::Unbuilt) => Some(b"Unbuilt\n"),
+        Err(JudgeError::OutOfMemory) => None,
+    }
+}

@@ -1,0 +1,129 @@
+//! Pieces of the input, cut into lines, each answered into the sink.
+ghost use Rattle.std.specs.Prelude.{◌≡◌, ◌≤◌, ◌∷◌, ◌++◌, [], IsErrOf, OnOk, IfErr};
+ghost use Rattle.judge.specs.Faults.{Rose};
+ghost use Rattle.judge.specs.Feeding.{AnswersLine, Extends, Feeds, Finishes, IsOpenLine, Puts, Stops, WriteCause};
+ghost use Rattle.judge.specs.Lines.{IsOneLine};
+
+use crate::answer::LineTask;
+use crate::cut::cut_at;
+use crate::{Sink, SinkError, Status};
+use std::alloc::Global;
+use std::convert::AsSlice;
+
+const LINE_END: u8 = b'\n';
+
+const MAX_LINE: usize = 1 << 24;
+
+// Takes a piece of the input after an open line.
+pub(crate) fn feed<T: LineTask, K: Sink>(
+    task: &T,
+    alloc: Global,
+    piece: &[u8],
+    line: &mut Vec<u8>,
+    sink: &mut K,
+) -> Result<(), Status>
+    requires { IsOpenLine line.old.items }
+    ensures open { OnOk result (IsOpenLine line.new.items) }
+    ensures feeds { OnOk result (Feeds (T.is_answer task.now) line.old.items piece.now line.new.items
+        (K.written sink.old) (K.written sink.new)) }
+    ensures stops { IfErr result (Stops (T.is_answer task.now) (line.old.items ++ piece.now)
+        (K.written sink.old) (K.written sink.new)) }
+    ensures cause { WriteCause (K.faults sink.old) (K.faults sink.new) result }
+{
+    let mut rest = piece;
+    while let Some((part, after)) = cut_at(LINE_END, rest) {
+        end_line(task, alloc, part, line, sink)?;
+        rest = after;
+    }
+    extend_line(line, rest)
+}
+
+// Answers what came after the last end of a line.
+pub(crate) fn finish<T: LineTask, K: Sink>(
+    task: &T,
+    alloc: Global,
+    line: &[u8],
+    sink: &mut K,
+) -> Result<(), Status>
+    ensures finishes { Finishes (T.is_answer task.now) line.now
+        (K.written sink.old) (K.written sink.new) result }
+    ensures cause { WriteCause (K.faults sink.old) (K.faults sink.new) result }
+{
+    if line.is_empty() {
+        return Ok(());
+    }
+    answer_line(task, alloc, line, sink)
+}
+
+// Answers the line that ends with this part, and empties it. A line that lies whole in the part isn't copied.
+fn end_line<T: LineTask, K: Sink>(
+    task: &T,
+    alloc: Global,
+    part: &[u8],
+    line: &mut Vec<u8>,
+    sink: &mut K,
+) -> Result<(), Status>
+    requires open { IsOpenLine line.old.items }
+    requires one { IsOneLine part.now }
+    ensures emptied { OnOk result (line.new.items ≡ []) }
+    ensures feeds { OnOk result (Feeds (T.is_answer task.now) line.old.items (part.now ++ 10 ∷ []) []
+        (K.written sink.old) (K.written sink.new)) }
+    ensures stops { IfErr result (Stops (T.is_answer task.now) (line.old.items ++ (part.now ++ 10 ∷ []))
+        (K.written sink.old) (K.written sink.new)) }
+    ensures cause { WriteCause (K.faults sink.old) (K.faults sink.new) result }
+{
+    if line.is_empty() && part.len() <= MAX_LINE {
+        return answer_line(task, alloc, part, sink);
+    }
+    extend_line(line, part)?;
+    answer_line(task, alloc, line, sink)?;
+    line.clear();
+    Ok(())
+}
+
+// Adds a part to an open line.
+fn extend_line(line: &mut Vec<u8>, part: &[u8]) -> Result<(), Status>
+    requires { IsOpenLine line.old.items }
+    ensures { Extends line.old.items line.new.items part.now result }
+{
+    if part.len() > MAX_LINE - line.len() {
+        return Err(Status::LineTooLong);
+    }
+    line.extend_from_slice(part)
+        .map_err(|_| Status::OutOfMemory)
+}
+
+// Answers a line, and writes the answer.
+fn answer_line<T: LineTask, K: Sink>(
+    task: &T,
+    alloc: Global,
+    line: &[u8],
+    sink: &mut K,
+) -> Result<(), Status>
+    ensures answers { AnswersLine (T.is_answer task.now) line.now
+        (K.written sink.old) (K.written sink.new) result }
+    ensures cause { WriteCause (K.faults sink.old) (K.faults sink.new) result }
+{
+    let Ok(text) = task.answer(alloc, line) else {
+        return Err(Status::OutOfMemory);
+    };
+    match put_all(sink, text.as_slice()) {
+        Ok(()) => Ok(()),
+        Err(SinkError::Failed) => Err(Status::WriteFault),
+        Err(SinkError::OutOfMemory) => Err(Status::OutOfMemory),
+    }
+}
+
+// Writes the piece, and then what the sink left of it.
+fn put_all<K: Sink>(sink: &mut K, piece: &[u8]) -> Result<(), SinkError>
+    ensures puts { Puts (K.written sink.old) (K.written sink.new) piece.now result }
+    ensures later { K.faults sink.old ≤ K.faults sink.new }
+    ensures failed { IsErrOf result SinkError.Failed → Rose (K.faults sink.old) (K.faults sink.new) }
+{
+    let mut rest = piece;
+    while !rest.is_empty() {
+        let count = sink.write(rest)?;
+        rest = &rest[count..];
+    }
+    Ok(())
+}

@@ -1,0 +1,92 @@
+//! The program's run.
+ghost use Rattle.std.specs.Prelude.{◌≡◌, ◌≢◌, ◌⊎◌, ◌↔◌, ◌<◌, ◌^◌, ℕ, List, Some, length, map, string_bytes, IsTrue};
+ghost use Rattle.judge.specs.Answers.{LineAnswer};
+ghost use Rattle.judge.specs.Faults.{Rose};
+ghost use Rattle.judge.specs.Lines.{AreShort, lines_of};
+ghost use Rattle.judge.specs.Ran.{Ran};
+ghost use Rattle.judge.specs.Words.{IsCheck};
+
+use crate::answer::{CheckTask, LineTask};
+use crate::lines::{feed, finish};
+use crate::{Sink, Source, Status};
+use std::alloc::Global;
+
+// Each turn takes at least one byte.
+const MAX_TURNS: u64 = 1 << 48;
+
+/// Answers each line that the source has left, where the words are none, or the one word `check`.
+///
+/// It reads 4,096 bytes at a time, answers each line that ended before it reads again, and hands each answer with the
+/// end of a line to the sink in one piece, and then what the sink left of it. It keeps one line in memory.
+pub fn run<S: Source, K: Sink>(
+    alloc: Global,
+    words: &[String],
+    source: &mut S,
+    sink: &mut K,
+) -> Status
+    ensures bad_words { (result ≡ Status.BadWords) ↔ (¬ IsCheck (map string_bytes words.now)) }
+    ensures untouched { result ≡ Status.BadWords → (source.new ≡ source.old) × (sink.new ≡ sink.old) }
+    ensures check { IsCheck (map string_bytes words.now)
+        → Ran LineAnswer
+        (S.left source.old) (S.left source.new) (K.written sink.old) (K.written sink.new) result }
+    ensures read_fault { result ≡ Status.ReadFault → Rose (S.faults source.old) (S.faults source.new) }
+    ensures write_fault { result ≡ Status.WriteFault → Rose (K.faults sink.old) (K.faults sink.new) }
+
+    // With good words, streams that don't fail and an input within the limits, it is done.
+    ensures complete { (input : List ℕ) → S.left source.old ≡ Some input
+        → AreShort (lines_of input)
+        → length input < 2 ^ 48
+        → IsCheck (map string_bytes words.now)
+        → ¬ Rose (S.faults source.old) (S.faults source.new)
+        → ¬ Rose (K.faults sink.old) (K.faults sink.new)
+        → (result ≡ Status.Done) ⊎ (result ≡ Status.OutOfMemory) }
+{
+    if asks_for_check(words) {
+        answer_lines(&CheckTask, alloc, source, sink)
+    } else {
+        Status::BadWords
+    }
+}
+
+// Whether the words ask for the command `check`.
+fn asks_for_check(words: &[String]) -> bool
+    ensures { IsTrue result ↔ IsCheck (map string_bytes words.now) }
+{
+    match words {
+        [] => true,
+        [word] => word.as_str() == "check",
+        _ => false,
+    }
+}
+
+// Answers each line that the source has left.
+fn answer_lines<T: LineTask, S: Source, K: Sink>(
+    task: &T,
+    alloc: Global,
+    source: &mut S,
+    sink: &mut K,
+) -> Status
+    ensures ran { Ran (T.is_answer task.now)
+        (S.left source.old) (S.left source.new) (K.written sink.old) (K.written sink.new) result }
+    ensures good_words { result ≢ Status.BadWords }
+    ensures read_fault { result ≡ Status.ReadFault → Rose (S.faults source.old) (S.faults source.new) }
+    ensures write_fault { result ≡ Status.WriteFault → Rose (K.faults sink.old) (K.faults sink.new) }
+{
+    let mut buffer = [0u8; 4096];
+    let mut line = Vec::new(alloc);
+    for _turn in 0..MAX_TURNS {
+        let Ok(count) = source.read(&mut buffer) else {
+            return Status::ReadFault;
+        };
+        if count == 0 {
+            if let Err(status) = finish(task, alloc, &line, sink) {
+                return status;
+            }
+            return Status::Done;
+        }
+        if let Err(status) = feed(task, alloc, &buffer[..count], &mut line, sink) {
+            return status;
+        }
+    }
+    Status::InputTooLong
+}

@@ -1,0 +1,133 @@
+use crate::*;
+use std::alloc::{AllocError, Global};
+use std::test::Fail;
+
+const VALID: &str =
+    "01000020040000800700000074797065696e7465676572 01000050080000902000000080800100\n";
+
+fn memory_source(alloc: Global, text: &str, fails: &[u64]) -> Result<MemorySource, AllocError> {
+    Ok(MemorySource::new(text.as_bytes().to_vec(alloc)?, fails.to_vec(alloc)?))
+}
+
+fn zeros_after(alloc: Global, text: &str, count: usize) -> Result<SteadySource, AllocError> {
+    let mut bytes = text.as_bytes().to_vec(alloc)?;
+    let zeros = vec![in alloc; b'0'; count]?;
+    bytes.extend_from_slice(&zeros)?;
+    Ok(SteadySource::new(bytes))
+}
+
+#[test]
+fn lines_are_answered(rt: HostRuntime) -> Result<(), Fail> {
+    let alloc = rt.alloc();
+    let cases = [
+        ("", ""),
+        (VALID, "valid\n"),
+        (" ", "Keywords(Malformed)\n"),
+        (
+            "zz 00\n00\n\n00  00",
+            "bad line\nbad line\nbad line\nbad line\n",
+        ),
+        ("\n\n", "bad line\nbad line\n"),
+        (
+            "0 00\n00 0\n00 00 00\n00\t00\n",
+            "bad line\nbad line\nbad line\nbad line\n",
+        ),
+        ("é 00\r\n+f 00", "bad line\nbad line\n"),
+    ];
+    for (text, answers) in &cases {
+        let mut source = memory_source(alloc, text, &[])?;
+        let mut sink = MemorySink::new(alloc, Vec::new(alloc));
+        let status = run(alloc, &[], &mut source, &mut sink);
+        assert_eq!(rt; status, Status::Done, "at {text}");
+        assert_eq!(rt; sink.written(), answers.as_bytes(), "at {text}");
+    }
+    Ok(())
+}
+
+#[test]
+fn a_failing_stream_stops_the_run(rt: HostRuntime) -> Result<(), Fail> {
+    let alloc = rt.alloc();
+    let none: &[u64] = &[];
+    let cases = [
+        ("00\n00", [1].as_slice(), none, Status::ReadFault, ""),
+        (
+            "00\n00",
+            [2].as_slice(),
+            none,
+            Status::ReadFault,
+            "bad line\n",
+        ),
+        (VALID, [2].as_slice(), none, Status::ReadFault, "valid\n"),
+        (VALID, none, [1].as_slice(), Status::WriteFault, ""),
+        (
+            "00\n00\n00",
+            none,
+            [3].as_slice(),
+            Status::WriteFault,
+            "bad line\nbad line\n",
+        ),
+    ];
+    for (text, read_fails, write_fails, status, answers) in &cases {
+        let mut source = memory_source(alloc, text, read_fails)?;
+        let mut sink = MemorySink::new(alloc, write_fails.to_vec(alloc)?);
+        let ended = run(alloc, &[], &mut source, &mut sink);
+        assert_eq!(rt; ended, *status, "at {text}");
+        assert_eq!(rt; sink.written(), answers.as_bytes(), "at {text}");
+    }
+    Ok(())
+}
+
+#[test]
+fn a_long_line_stops_the_run(rt: HostRuntime) -> Result<(), Fail> {
+    let alloc = rt.alloc();
+    let cases = [
+        ("", 1 << 24, Status::Done, "bad line\n"),
+        ("", (1 << 24) + 1, Status::LineTooLong, ""),
+        ("00\n", (1 << 24) + 1, Status::LineTooLong, "bad line\n"),
+    ];
+    for (text, count, status, answers) in &cases {
+        let mut source = zeros_after(alloc, text, *count)?;
+        let mut sink = MemorySink::new(alloc, Vec::new(alloc));
+        let ended = run(alloc, &[], &mut source, &mut sink);
+        assert_eq!(rt; ended, *status, "at {count} after {text}");
+        assert_eq!(rt;
+            sink.written(),
+            answers.as_bytes(),
+            "at {count} after {text}"
+        );
+    }
+    Ok(())
+}
+
+#[test]
+fn words_are_none_or_check(rt: HostRuntime) -> Result<(), Fail> {
+    let alloc = rt.alloc();
+    let cases = [
+        (["check"].as_slice(), Status::Done),
+        (["check", "check"].as_slice(), Status::BadWords),
+        (["Check"].as_slice(), Status::BadWords),
+        ([""].as_slice(), Status::BadWords),
+    ];
+    for (texts, status) in &cases {
+        let mut words = Vec::new(alloc);
+        for text in *texts {
+            words.push(String::from_str(alloc, text)?)?;
+        }
+        let mut source = memory_source(alloc, VALID, &[])?;
+        let mut sink = SteadySink::new();
+        assert_eq!(rt; run(alloc, &words, &mut source, &mut sink), *status);
+    }
+    Ok(())
+}
+
+#[test]
+fn errors_print_their_names(rt: HostRuntime) -> Result<(), Fail> {
+    let alloc = rt.alloc();
+    assert_eq!(rt; Failed.to_string(alloc)?.as_str(), "Failed");
+    assert_eq!(rt; SinkError::Failed.to_string(alloc)?.as_str(), "Failed");
+    assert_eq!(rt;
+        SinkError::OutOfMemory.to_string(alloc)?.as_str(),
+        "OutOfMemory"
+    );
+    Ok(())
+}

@@ -1,0 +1,81 @@
+//! Standard input and output as streams, which count their faults.
+ghost use Rattle.std.specs.Prelude.{None, ◌≡◌, ◌≤◌};
+ghost use Rattle.judge.specs.Faults.{Rose};
+
+use judge::{Failed, Sink, SinkError, Source};
+use std::io::{Read, Stdin, Stdout, Write};
+
+/// Standard input. It tells no content.
+#[derive(Drop)]
+pub struct StdinSource {
+    stdin: Stdin,
+    faults: u64,
+}
+
+/// Standard output, which is flushed at each call. It tells no content.
+#[derive(Drop)]
+pub struct StdoutSink {
+    stdout: Stdout,
+    faults: u64,
+}
+
+impl StdinSource {
+    pub fn new(stdin: Stdin) -> Self
+        ensures { ⟦<StdinSource as Source>⟧.faults result ≡ 0 }
+    {
+        StdinSource { stdin, faults: 0 }
+    }
+}
+
+impl Source for StdinSource {
+    ghost left = { λ _. None };
+
+    ghost faults = { λ source. source.faults };
+
+    fn read(&mut self, buffer: &mut [u8]) -> Result<usize, Failed> {
+        match self.stdin.read(buffer) {
+            Ok(count) => Ok(count),
+            Err(_) => {
+                self.faults = self.faults.saturating_add(1);
+                Err(Failed)
+            }
+        }
+    }
+}
+
+impl StdoutSink {
+    pub fn new(stdout: Stdout) -> Self
+        ensures { ⟦<StdoutSink as Sink>⟧.faults result ≡ 0 }
+    {
+        StdoutSink { stdout, faults: 0 }
+    }
+
+    fn count_fault(&mut self)
+        ensures later { self.old.faults ≤ self.new.faults }
+        ensures rose { Rose self.old.faults self.new.faults }
+    {
+        self.faults = self.faults.saturating_add(1);
+    }
+}
+
+impl Sink for StdoutSink {
+    ghost written = { λ _. None };
+
+    ghost faults = { λ sink. sink.faults };
+
+    fn write(&mut self, piece: &[u8]) -> Result<usize, SinkError> {
+        let Ok(count) = self.stdout.write(piece) else {
+            self.count_fault();
+            return Err(SinkError::Failed);
+        };
+        if count == 0 && !piece.is_empty() {
+            self.count_fault();
+            return Err(SinkError::Failed);
+        }
+        if self.stdout.flush().is_err() {
+            self.count_fault();
+            return Err(SinkError::Failed);
+        }
+        Ok(count)
+    }
+}

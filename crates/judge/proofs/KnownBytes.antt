@@ -15,11 +15,6 @@ pub Appends-none : (a : Option (List ℕ)) → Appends a a []
 Appends-none None = tt
 Appends-none (Some s) = sym (append-nil s)
 
-pub Appends-kept : (a b : Option (List ℕ)) → Keeps a b → Appends a b []
-Appends-kept None b h = tt
-Appends-kept (Some s) None h = absurd h
-Appends-kept (Some s) (Some t) h = h ∙ sym (append-nil s)
-
 pub Consumes-both : (a b c : Option (List ℕ)) (x y : List ℕ) → Consumes a b x → Consumes b c y → Consumes a c (x ++ y)
 Consumes-both None b c x y h g = tt
 Consumes-both (Some s) None c x y h g = absurd h
@@ -29,11 +24,6 @@ Consumes-both (Some s) (Some t) (Some u) x y h g = h ∙ ap (λ v. x ++ v) g ∙
 pub Consumes-none : (a : Option (List ℕ)) → Consumes a a []
 Consumes-none None = tt
 Consumes-none (Some s) = refl
-
-pub Consumes-kept : (a b : Option (List ℕ)) → Keeps a b → Consumes a b []
-Consumes-kept None b h = tt
-Consumes-kept (Some s) None h = absurd h
-Consumes-kept (Some s) (Some t) h = sym h
 
 pub Appends-then_kept : (a b c : Option (List ℕ)) (x : List ℕ) → Appends a b x → Keeps b c → Appends a c x
 Appends-then_kept None b c x h g = tt

@@ -10,7 +10,7 @@ use Rattle.judge.specs.Feeding.{AnswersOne, Feeds, Finishes, IsOpenLine, StartsL
 use Rattle.judge.specs.Ran.{AnswersBeforeLong, AnswersEnded, BeginsAnswers, Ran}
 use Rattle.judge.proofs.KnownBytes.{Appends-both, Consumes-both, Consumes-none, Consumes-then_kept}
 use Rattle.judge.proofs.Texts.{Answers-append, AreShort-append, lines_of-begins, lines_of-open, lines_of-text}
-use Rattle.judge.proofs.Steps.{feeds_both, feeds_none, one_answer, stops_later}
+use Rattle.judge.proofs.Steps.{feeds_both, feeds_none, not_both, not_long, one_answer, stops_later}
 
 -- all that was taken was fed, in so many turns
 pub record Going (A : List ℕ → List ℕ → Type 0) (a b u v : Option (List ℕ)) (line : List ℕ) (turns : ℕ) : Type 0 where
@@ -20,18 +20,11 @@ pub record Going (A : List ℕ → List ℕ → Type 0) (a b u v : Option (List 
   pub is_open : IsOpenLine line
   pub enough : turns ≤ length taken
 
--- the other statuses
-not_read : (s : Status) → (s ≡ LineTooLong) ⊎ (s ≡ WriteFault) ⊎ (s ≡ OutOfMemory) → (s ≡ Done → ⊥) × (s ≡ ReadFault → ⊥) × (s ≡ InputTooLong → ⊥) × (s ≡ BadWords → ⊥)
-not_read s (inl e) = (λ is. cc, λ is. cc, λ is. cc, λ is. cc)
-not_read s (inr (inl e)) = (λ is. cc, λ is. cc, λ is. cc, λ is. cc)
-not_read s (inr (inr e)) = (λ is. cc, λ is. cc, λ is. cc, λ is. cc)
-
-not_both : (s : Status) → s ≡ WriteFault → s ≡ OutOfMemory → ⊥
-not_both s fault memory = cc
-
-not_long : (s : Status) → (s ≡ WriteFault) ⊎ (s ≡ OutOfMemory) → s ≡ LineTooLong → ⊥
-not_long s (inl e) is = cc
-not_long s (inr e) is = cc
+-- a run that stops in a piece has none of the other statuses
+not_read : (s : Status) → (s ≡ LineTooLong) ⊎ (s ≡ WriteFault) ⊎ (s ≡ OutOfMemory) → (s ≡ Done → ⊥) × (s ≡ ReadFault → ⊥) × (s ≡ InputTooLong → ⊥)
+not_read s (inl e) = (λ is. cc, λ is. cc, λ is. cc)
+not_read s (inr (inl e)) = (λ is. cc, λ is. cc, λ is. cc)
+not_read s (inr (inr e)) = (λ is. cc, λ is. cc, λ is. cc)
 
 -- a text that begins with a long line has a first line that is too long
 long_first : (text long after : List ℕ) → text ≡ long ++ after → IsOneLine long → 2 ^ 24 < length long → (line : List ℕ) × (others : List (List ℕ)) × (lines_of text ≡ line ∷ others) × (2 ^ 24 < length line)
@@ -176,9 +169,6 @@ module _ {A : List ℕ → List ℕ → Type 0} where
       stopped a c u w (t.taken ++ bytes) s (Consumes-both a b c t.taken bytes t.takes takes)
       (stops_later [] t.taken line bytes u v w s t.feeds st)
 
-  pub stopped_good : (x : List ℕ) (u w : Option (List ℕ)) (s : Status) → Stops A x u w s → (s ≢ BadWords) × (s ≢ ReadFault)
-  stopped_good x u w s st = let others = not_read s st.kind in (others.3, others.1)
-
   last_of : (line text : List ℕ) → IsOpenLine line → ((line ≡ []) × (text ≡ [])) ⊎ ((0 < length line) × AnswersOne A line text) → IsLast A line text
   last_of line text o (inl none) = record { last = []; are = ap lines_of none.0; short = tt; answers = none.1 }
   last_of [] text o (inr one) = absurd (omega arith)
@@ -257,9 +247,6 @@ module _ {A : List ℕ → List ℕ → Type 0} where
         line_too_long = λ is. absurd (not_long s kind.1 is);
         input_too_long = λ is. absurd (others.2 is);
       }
-
-  pub unfinished_good : (line : List ℕ) (u w : Option (List ℕ)) (r : Result Unit Status) (s : Status) → Finishes A line u w r → r ≡ Err s → (s ≢ BadWords) × (s ≢ ReadFault)
-  unfinished_good line u w r s fin e = let kind = rw e at fin.kind in let others = not_read s (inr kind.1) in (others.3, others.1)
 
   -- ---- a whole run
 

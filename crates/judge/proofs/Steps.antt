@@ -10,11 +10,11 @@ use Rattle.judge.specs.Lines.{IsOneLine, text_of}
 use Rattle.judge.proofs.KnownBytes.{Appends-both, Appends-none}
 use Rattle.judge.proofs.Texts.{Answers-append, AreLines-append, AreShort-append, Lacks-append, text_of-append, text_of-more}
 
-not_long : (status : Status) → (status ≡ WriteFault) ⊎ (status ≡ OutOfMemory) → status ≡ LineTooLong → ⊥
+pub not_long : (status : Status) → (status ≡ WriteFault) ⊎ (status ≡ OutOfMemory) → status ≡ LineTooLong → ⊥
 not_long status (inl e) is = cc
 not_long status (inr e) is = cc
 
-not_both : (status : Status) → status ≡ WriteFault → status ≡ OutOfMemory → ⊥
+pub not_both : (status : Status) → status ≡ WriteFault → status ≡ OutOfMemory → ⊥
 not_both status fault memory = cc
 
 starts_within : (x y : List ℕ) → StartsLong x → StartsLong (x ++ y)

@@ -1,4 +1,23 @@
-//! Reads `jsonb` in place.
+//! Reads JSON in place from the bytes of PostgreSQL's `jsonb`, as they lie in a column.
+//!
+//! [`Jsonb::root`] takes a whole slice, looks at every part of it, and gives the root's [`JsonbNode`], which borrows the
+//! slice and builds no tree. A node answers what it is: an object with its members, an array with its length, a string, a
+//! number with its exact value and written fraction digits, a boolean or null. For example the bytes, in hex,
+//!
+//! ```text
+//! 01000050 08000090 20000000 8080 0100
+//! ```
+//!
+//! are the root scalar 1.0: an array of one item that is marked as a scalar, one entry, and the number's header and one
+//! digit group.
+//!
+//! The layout is the one of PostgreSQL's `src/include/utils/jsonb.h` and `src/backend/utils/adt/numeric.c` on a machine with
+//! low bytes first: entries hold lengths and, at each 32nd place, offsets; keys are in order of length and then of bytes;
+//! numbers are at the next 4-byte place. What PostgreSQL never writes is refused. So is a number that no decimal of 38
+//! digits holds, and a text that is not UTF-8; [`JsonbError`] says which. Containers may nest as deep as a slice is long:
+//! the reader takes memory for the nesting alone, and no stack.
+//!
+//! [`encode::decode_hex`] reads the bytes of a text of two hex digits a byte.
 #![tactic(auto)]
 
 mod array;

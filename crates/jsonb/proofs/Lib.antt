@@ -11,3 +11,6 @@ pub mod KindLaws
 pub mod MemberLaws
 pub mod NumberLaws
 pub mod HexTexts
+pub mod OneRead
+pub mod Nestings
+pub mod Slices

@@ -7,3 +7,4 @@ pub mod Nodes
 pub mod Root
 pub mod Reads
 pub mod HexText
+pub mod Nested

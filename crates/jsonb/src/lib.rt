@@ -27,6 +27,7 @@ mod found;
 mod frame;
 mod keys;
 mod kind;
+pub mod laws;
 mod members;
 mod node;
 mod number;

@@ -2,6 +2,7 @@ pub mod Answering
 pub mod Compiling
 pub mod Cuts
 pub mod KnownBytes
+pub mod OneAnswer
 pub mod Pairs
 pub mod Rising
 pub mod Runs

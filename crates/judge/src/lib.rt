@@ -31,6 +31,7 @@ mod cut;
 mod errors;
 mod json_type;
 mod keyword;
+pub mod laws;
 mod lines;
 mod memory;
 mod program;

@@ -1,7 +1,7 @@
 use Rattle.std.proofs.Common.{◌≡◌, inl, refl, subst, arith}
 use Rattle.jsonb.specs.HexText.{IsFirstNotHex}
 use Rattle.jsonb.proofs.HexTexts.{decoded_hex, even_hex, hex_or_not, one_first, tells}
-use Rattle.jsonb.proofs.encode.decode_hex.Goals as goal
+use Rattle.jsonb.proofs.encode.hex_text.decode_hex.Goals as goal
 
 pub unreachable-requires : goal.unreachable-requires
 unreachable-requires c = rw c.in-Err-InvalidStringLength.field-0-is at (tells _ _ c.in-Err-InvalidStringLength.ensures.err)

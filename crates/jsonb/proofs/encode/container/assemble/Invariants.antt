@@ -1,0 +1,6 @@
+use Rattle.std.proofs.Common.{◌≡◌, ◌∷◌, take}
+use Rattle.jsonb_layout.specs.Layout.{words}
+use Rattle.jsonb.proofs.encode.container.assemble.Given as goal
+
+abbrev pub invariant-loop-entry : goal.invariant-loop-entry
+invariant-loop-entry l = l.bytes.items ≡ words (l.header ∷ take l.entry-index l.entries)

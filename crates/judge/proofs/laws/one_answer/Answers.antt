@@ -1,0 +1,5 @@
+use Rattle.judge.proofs.OneAnswer.{one_answer}
+use Rattle.judge.proofs.laws.one_answer.Goals as goal
+
+pub returns : goal.returns
+returns c = one_answer c.args.keywords.now c.args.document.now

@@ -13,11 +13,11 @@
 //!
 //! The layout is the one of PostgreSQL's `src/include/utils/jsonb.h` and `src/backend/utils/adt/numeric.c` on a machine with
 //! low bytes first: entries hold lengths and, at each 32nd place, offsets; keys are in order of length and then of bytes;
-//! numbers are at the next 4-byte place. What PostgreSQL never writes is refused. So is a number that no decimal of 38
-//! digits holds, and a text that is not UTF-8; [`JsonbError`] says which. Containers may nest as deep as a slice is long:
-//! the reader takes memory for the nesting alone, and no stack.
+//! numbers and containers are at the next 4-byte place, after zero bytes. What is laid out otherwise is refused, trailing bytes
+//! too. So is a number that no decimal of 38 digits holds, and a text that is not UTF-8; [`JsonbError`] says which. Containers
+//! may nest as deep as a slice is long: the reader takes memory for the nesting alone, and no stack.
 //!
-//! [`encode::decode_hex`] reads the bytes of a text of two hex digits a byte.
+//! [`encode`] makes bytes, and reads the bytes of hex text. [`laws`] says what holds of the grammar for all bytes.
 #![tactic(auto)]
 
 mod array;

@@ -1,6 +1,6 @@
 -- How a container lies in bytes: a header word, a word for each item, and the pieces (PostgreSQL, `jsonb.h`:
--- `JsonbContainer`, `JEntry`, `JB_OFFSET_STRIDE`). All words are little-endian. That a count and a payload stay below
--- 2 ^ 28, and that item 0 stores its sum as items 32, 64 and so on do, is this project's own.
+-- `JsonbContainer`, `JEntry`, `JB_OFFSET_STRIDE`). All words are little-endian. That no other shape stands for a tree is
+-- this project's own.
 use Rattle.std.specs.Prelude.{◌≡◌, ℕ, ◌+◌, ◌*◌, ◌%◌, ◌^◌, ◌<◌, List, [], ◌∷◌, ◌++◌, length, if◌then◌else◌, ◌==◌}
 use Rattle.std.specs.List.{flat_map, AllByRecursion}
 use Rattle.std.specs.Int.{w32, to_le_bytes}

@@ -45,7 +45,7 @@ pub enum KeywordError {
 #[derive(Clone, Copy, Debug, PartialEq, Eq, Error)]
 pub enum JudgeError {
     /// The keywords' bytes are no JSON tree.
-    #[error("Keywords")]
+    #[error("Keywords({0})")]
     Keywords(Fault),
     /// The keywords are no object, as `00000040`, the empty array.
     #[error("NotAnObject")]
@@ -57,7 +57,7 @@ pub enum JudgeError {
     #[error("BadKeyword")]
     BadKeyword { member: usize },
     /// The document's bytes are no JSON tree.
-    #[error("Document")]
+    #[error("Document({0})")]
     Document(Fault),
     /// The first faulty member has a name that is known and not built yet, or is `type` with a list.
     #[error("Unbuilt")]

@@ -21,8 +21,8 @@
 //! bad line
 //! ```
 //!
-//! A line has at most 2^24 bytes and the input fewer than 2^48. A run ends with a [`Status`], and its contract says
-//! what was taken and written at each.
+//! A line has at most 2^24 bytes, and an input of fewer than 2^48 bytes is never too long. A run ends with a [`Status`], and
+//! its contract says what was taken and written at each.
 #![tactic(auto)]
 
 mod answer;

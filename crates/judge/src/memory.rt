@@ -1,5 +1,5 @@
 //! Streams in memory, which fail at listed calls.
-ghost use Rattle.std.specs.Prelude.{Some, ◌≡◌, ◌↔◌, ◌≤◌, ◌<◌, ◌+◌, ◌-◌, ◌^◌, [], min, length, take, Contains, IfOk, IsErr};
+ghost use Rattle.std.specs.Prelude.{Some, ◌≡◌, ◌↔◌, ◌≤◌, ◌<◌, ◌+◌, ◌-◌, ◌^◌, [], min, length, take, Contains, IfOk, OnOk, OnErr, IsErr, IsErrOf};
 ghost use Rattle.std.specs.Io.{ReadsAtMost, WritesAtMost};
 ghost use Rattle.std.specs.Io.KnownBytes.{ReadConsumes, WriteAppends};
 ghost use Rattle.judge.specs.Faults.{HasCause, SinkHasCause};
@@ -69,7 +69,9 @@ impl Source for MemorySource {
         ensures bytes { ReadConsumes (Some (source_left self.old)) (Some (source_left self.new)) result buffer.new }
         ensures cause { HasCause (source_faults self.old) (source_faults self.new) result }
 
-        // It fails at the listed calls alone, and else gives as much as the buffer takes.
+        // It fails at the listed calls alone, counts each, and else gives as much as the buffer takes.
+        ensures counted { OnErr result (source_faults self.new ≡ min (source_faults self.old + 1) (2 ^ 64 - 1)) }
+        ensures kept { OnOk result (source_faults self.new ≡ source_faults self.old) }
         ensures calls { source_calls self.new ≡ min (source_calls self.old + 1) (2 ^ 64 - 1) }
         ensures fails { IsErr result ↔ Contains (source_fails self.old) (source_calls self.new) }
         ensures same_fails { source_fails self.new ≡ source_fails self.old }
@@ -125,7 +127,9 @@ impl Sink for MemorySink {
         ensures bytes { WriteAppends (Some (sink_written self.old)) (Some (sink_written self.new)) result piece.now }
         ensures cause { SinkHasCause (sink_faults self.old) (sink_faults self.new) result }
 
-        // It fails at the listed calls alone, and else takes the piece whole, or finds no memory.
+        // It fails at the listed calls alone, counts each, and else takes the piece whole, or finds no memory.
+        ensures counted { IsErrOf result SinkError.Failed → sink_faults self.new ≡ min (sink_faults self.old + 1) (2 ^ 64 - 1) }
+        ensures kept { OnOk result (sink_faults self.new ≡ sink_faults self.old) }
         ensures calls { sink_calls self.new ≡ min (sink_calls self.old + 1) (2 ^ 64 - 1) }
         ensures fails { (result ≡ Err SinkError.Failed) ↔ Contains (sink_fails self.old) (sink_calls self.new) }
         ensures same_fails { sink_fails self.new ≡ sink_fails self.old }

@@ -1,6 +1,8 @@
 //! Standard input and output as streams, which count their faults.
-ghost use Rattle.std.specs.Prelude.{None, ◌≡◌, ◌≤◌};
-ghost use Rattle.judge.specs.Faults.{Rose};
+ghost use Rattle.std.specs.Prelude.{None, Err, ◌≡◌, ◌≢◌, ◌≤◌, ◌<◌, length, IfOk, OnOk};
+ghost use Rattle.std.specs.Io.{ReadsAtMost, WritesAtMost};
+ghost use Rattle.std.specs.Io.KnownBytes.{ReadConsumes, WriteAppends};
+ghost use Rattle.judge.specs.Faults.{HasCause, SinkHasCause, Rose};
 
 use judge::{Failed, Sink, SinkError, Source};
 use std::io::{Read, Stdin, Stdout, Write};
@@ -32,7 +34,12 @@ impl Source for StdinSource {
 
     ghost faults = { λ source. source.faults };
 
-    fn read(&mut self, buffer: &mut [u8]) -> Result<usize, Failed> {
+    fn read(&mut self, buffer: &mut [u8]) -> Result<usize, Failed>
+        ensures bound { ReadsAtMost result buffer.new }
+        ensures bytes { ReadConsumes None None result buffer.new }
+        ensures cause { HasCause self.old.faults self.new.faults result }
+        ensures kept { OnOk result (self.new.faults ≡ self.old.faults) }
+    {
         match self.stdin.read(buffer) {
             Ok(count) => Ok(count),
             Err(_) => {
@@ -63,7 +70,14 @@ impl Sink for StdoutSink {
 
     ghost faults = { λ sink. sink.faults };
 
-    fn write(&mut self, piece: &[u8]) -> Result<usize, SinkError> {
+    fn write(&mut self, piece: &[u8]) -> Result<usize, SinkError>
+        ensures bound { WritesAtMost result piece.now }
+        ensures some { IfOk result (λ count. 0 < length piece.now → 0 < count) }
+        ensures bytes { WriteAppends None None result piece.now }
+        ensures cause { SinkHasCause self.old.faults self.new.faults result }
+        ensures kept { OnOk result (self.new.faults ≡ self.old.faults) }
+        ensures no_memory { result ≢ Err SinkError.OutOfMemory }
+    {
         let Ok(count) = self.stdout.write(piece) else {
             self.count_fault();
             return Err(SinkError::Failed);

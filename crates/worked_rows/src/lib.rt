@@ -1,8 +1,11 @@
-//! Worked rows, as tables: slices with the answers that they get, from outside this project. There is no code here.
+//! Tests that cross the crates: slices, as tables, with the answers that the layout and JSON Schema give them. There is no
+//! code here.
 #![tactic(auto)]
 
 #[cfg(test)]
 mod hex_texts;
+#[cfg(test)]
+mod layout;
 #[cfg(test)]
 mod nodes;
 #[cfg(test)]

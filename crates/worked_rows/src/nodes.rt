@@ -102,5 +102,9 @@ fn errors_print_their_names(rt: HostRuntime) -> Result<(), Fail> {
         );
         assert_eq!(rt; error.to_string(alloc)?.as_str(), *name);
     }
+    assert_eq!(rt;
+        JsonbError::OutOfMemory.to_string(alloc)?.as_str(),
+        "OutOfMemory"
+    );
     Ok(())
 }

@@ -1,7 +1,8 @@
 //! Keyword objects and documents, as the hex of their bytes, with what `judge` answers.
 
-use jsonb::encode::decode_hex;
+use jsonb::encode::{assemble, decode_hex, encode_nested_arrays};
 use judge::{Fault, JudgeError, judge};
+use std::alloc::{AllocError, Global};
 use std::test::Fail;
 
 const TYPE_INTEGER: &str = "01000020040000800700000074797065696e7465676572";
@@ -111,6 +112,80 @@ fn judges_the_worked_rows(rt: HostRuntime) -> Result<(), Fail> {
             *answer,
             "at {keywords} {document}"
         );
+    }
+    Ok(())
+}
+
+// 33 nulls: the last entry word as it is given.
+fn nulls(alloc: Global, last: u32) -> Result<Vec<u8>, Fail> {
+    let mut entries = vec![in alloc; 0x4000_0000; 33]?;
+    entries[0] = 0xc000_0000;
+    entries[32] = last;
+    Ok(assemble(alloc, 0x4000_0021, &entries, &[])?)
+}
+
+#[test]
+fn reads_the_stored_sum_of_entry_32(rt: HostRuntime) -> Result<(), Fail> {
+    let alloc = rt.alloc();
+    let keywords = decode_hex(alloc, EMPTY_OBJECT)?;
+    let rows = [
+        (0xc000_0000, Ok(true)),
+        (0x4000_0000, Err(JudgeError::Document(Fault::Malformed))),
+    ];
+    for (last, answer) in &rows {
+        let document = nulls(alloc, *last)?;
+        assert_eq!(rt; judge(alloc, &keywords, &document), *answer, "at {last}");
+    }
+    Ok(())
+}
+
+#[test]
+fn judges_nested_documents(rt: HostRuntime) -> Result<(), Fail> {
+    let alloc = rt.alloc();
+    // {"type":"array"}
+    let keywords = decode_hex(alloc, "010000200400008005000000747970656172726179")?;
+    let document = encode_nested_arrays(alloc, 99_999)?;
+    assert_eq!(rt; document.len(), 799_996);
+    assert_eq!(rt; judge(alloc, &keywords, &document), Ok(true));
+
+    // {"const":[[..]]}, of 128 and of 129 arrays
+    let rows = [(127, 0x5000_03ff), (128, 0x5000_0407)];
+    for (depth, entry) in &rows {
+        let mut payload = b"const\0\0\0".to_vec(alloc)?;
+        payload.extend_from_slice(&encode_nested_arrays(alloc, *depth)?)?;
+        let object = assemble(alloc, 0x2000_0001, &[0x8000_0005, *entry], &payload)?;
+        let empty = decode_hex(alloc, EMPTY_OBJECT)?;
+        assert_eq!(rt; judge(alloc, &empty, &object), Ok(true), "at {depth}");
+        assert_eq!(rt;
+            judge(alloc, &object, &empty),
+            Err(JudgeError::Unbuilt),
+            "at {depth}"
+        );
+    }
+    Ok(())
+}
+
+#[test]
+fn errors_print_their_names(rt: HostRuntime) -> Result<(), Fail> {
+    let alloc = rt.alloc();
+    let rows = [
+        (
+            JudgeError::Keywords(Fault::Malformed),
+            "Keywords(Malformed)",
+        ),
+        (JudgeError::NotAnObject, "NotAnObject"),
+        (JudgeError::UnknownKeyword { member: 2 }, "UnknownKeyword"),
+        (JudgeError::BadKeyword { member: 2 }, "BadKeyword"),
+        (JudgeError::Document(Fault::NotText), "Document(NotText)"),
+        (
+            JudgeError::Document(Fault::NumberTooWide),
+            "Document(NumberTooWide)",
+        ),
+        (JudgeError::Unbuilt, "Unbuilt"),
+        (JudgeError::OutOfMemory, "OutOfMemory"),
+    ];
+    for (error, name) in &rows {
+        assert_eq!(rt; error.to_string(alloc)?.as_str(), *name);
     }
     Ok(())
 }

@@ -15,28 +15,37 @@ const CONTAINER: u32 = 0x5000_0000;
 
 const HAS_OFFSET: u32 = 0x8000_0000;
 
-// The entry words of so many strings of one byte each, and then of so many nulls.
-fn entries(alloc: Global, strings: u32, nulls: u32) -> Result<Vec<u32>, AllocError> {
+// The entry words of so many strings of one byte each, and then of so many nulls, but for the word at one place.
+fn entries(
+    alloc: Global,
+    strings: u32,
+    nulls: u32,
+    place: u32,
+    word: u32,
+) -> Result<Vec<u32>, AllocError> {
     let mut words = Vec::new(alloc);
-    for index in 0..strings + nulls {
-        let string = index < strings;
-        let kind = if string { 0 } else { NULL };
-        let sum = if string { index + 1 } else { strings };
-        let length = if string { 1 } else { 0 };
-        words.push(if index % 32 == 0 {
-            HAS_OFFSET + kind + sum
+    for index in 0..strings.saturating_add(nulls) {
+        let (kind, length, sum) = if index < strings {
+            (0, 1, index + 1)
         } else {
-            kind + length
+            (NULL, 0, strings)
+        };
+        words.push(if index == place {
+            word
+        } else if index % 32 == 0 {
+            HAS_OFFSET | kind | sum
+        } else {
+            kind | length
         })?;
     }
     Ok(words)
 }
 
-// One byte for each string, the next one greater.
+// So many bytes from 0 on.
 fn rising(alloc: Global, count: u32) -> Result<Vec<u8>, AllocError> {
     let mut bytes = Vec::new(alloc);
     for byte in 0..count {
-        bytes.push(byte as u8)?;
+        bytes.push((byte % 256) as u8)?;
     }
     Ok(bytes)
 }
@@ -44,22 +53,20 @@ fn rising(alloc: Global, count: u32) -> Result<Vec<u8>, AllocError> {
 #[test]
 fn stored_sums_stand_at_each_thirty_second_entry(rt: HostRuntime) -> Result<(), Fail> {
     let alloc = rt.alloc();
-    for count in &[31, 32, 33, 64, 65, 100] {
-        let last = (*count - 1) / 32 * 32;
+    for (count, last) in &[(31, 0), (32, 0), (33, 32), (64, 32), (65, 64), (100, 96)] {
         let words = [
-            (last, HAS_OFFSET + last + 1, true),
-            (last, HAS_OFFSET + last, false),
-            (last, HAS_OFFSET + last + 2, false),
-            (last, 1, false),
-            (1, HAS_OFFSET + 2, false),
-            (30, HAS_OFFSET + 31, false),
+            (*last, HAS_OFFSET | (*last + 1), true),
+            (*last, HAS_OFFSET | *last, false),
+            (*last, HAS_OFFSET | (*last + 2), false),
+            (*last, 1, false),
+            (1, HAS_OFFSET | 2, false),
+            (30, HAS_OFFSET | 31, false),
         ];
         for (place, word, stands) in &words {
             for (header, nulls) in &[(ARRAY, 0), (OBJECT, *count)] {
-                let mut entries = entries(alloc, *count, *nulls)?;
-                entries[*place as usize] = *word;
+                let entries = entries(alloc, *count, *nulls, *place, *word)?;
                 let payload = rising(alloc, *count)?;
-                let bytes = assemble(alloc, *header + *count, &entries, &payload)?;
+                let bytes = assemble(alloc, *header | *count, &entries, &payload)?;
                 assert_eq!(rt;
                     Jsonb::root(alloc, &bytes).is_ok(),
                     *stands,
@@ -90,28 +97,39 @@ fn no_front_of_a_slice_stands(rt: HostRuntime) -> Result<(), Fail> {
     Ok(())
 }
 
-// How many of the changes of one byte are refused for which cause was counted by another reading of the layout.
+// A copy in which the byte at a place is another.
+fn changed(alloc: Global, bytes: &[u8], place: usize, change: u8) -> Result<Vec<u8>, AllocError> {
+    let mut copy = bytes.to_vec(alloc)?;
+    if let Some(byte) = copy.get_mut(place) {
+        *byte ^= change;
+    }
+    Ok(copy)
+}
+
+// How many of the changes of one byte are refused, and for which cause, was counted by another reading of the layout.
 #[test]
 fn changes_of_one_byte_are_refused_by_their_cause(rt: HostRuntime) -> Result<(), Fail> {
     let alloc = rt.alloc();
-    let mut bytes = decode_hex(alloc, NESTED)?;
-    let mut malformed = 0;
-    let mut not_text = 0;
-    let mut stands = 0;
+    let bytes = decode_hex(alloc, NESTED)?;
+    let mut answers = Vec::new(alloc);
     for place in 0..bytes.len() {
-        let kept = bytes[place];
-        for change in 1..256 {
-            bytes[place] = kept ^ change as u8;
-            match Jsonb::root(alloc, &bytes) {
-                Ok(_) => stands += 1,
-                Err(JsonbError::Malformed) => malformed += 1,
-                Err(JsonbError::NotText) => not_text += 1,
-                Err(error) => return Err(error.into()),
-            }
+        for less in 0..255u8 {
+            let changed = changed(alloc, &bytes, place, less + 1)?;
+            answers.push(Jsonb::root(alloc, &changed).err())?;
         }
-        bytes[place] = kept;
     }
-    assert_eq!(rt; (malformed, not_text, stands), (10_861, 548, 831));
+    let counts = [
+        (Some(JsonbError::Malformed), 10_861),
+        (Some(JsonbError::NotText), 548),
+        (None, 831),
+    ];
+    for (cause, count) in &counts {
+        assert_eq!(rt;
+            answers.iter().filter(|answer| *answer == cause).count(),
+            *count,
+            "at {cause:?}"
+        );
+    }
     Ok(())
 }
 

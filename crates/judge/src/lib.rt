@@ -47,6 +47,3 @@ pub use status::Status;
 pub use steady::{SteadySink, SteadySource};
 pub use stream::{Failed, Sink, SinkError, Source};
 pub use verdict::judge;
-
-#[cfg(test)]
-mod tests;

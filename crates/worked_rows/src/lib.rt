@@ -11,4 +11,8 @@ mod nodes;
 #[cfg(test)]
 mod numbers;
 #[cfg(test)]
+mod runs;
+#[cfg(test)]
+mod slow;
+#[cfg(test)]
 mod verdicts;

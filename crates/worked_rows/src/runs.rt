@@ -1,9 +1,19 @@
-use crate::*;
+//! Runs over lines.
+
+use crate::slow::{SlowSink, SlowSource};
+use judge::{Failed, MemorySink, MemorySource, SinkError, Status, SteadySink, SteadySource, run};
 use std::alloc::{AllocError, Global};
 use std::test::Fail;
 
+// {"type":"integer"} and 1.0
 const VALID: &str =
     "01000020040000800700000074797065696e7465676572 01000050080000902000000080800100\n";
+
+// 1.0 and 1.5 under {"type":"integer"}, and null under {}
+const LINES: &str =
+    "01000020040000800700000074797065696e7465676572 01000050080000902000000080800100\n\
+    01000020040000800700000074797065696e7465676572 010000500a00009028000000808001008813\n\
+    00000020 01000050000000c0\n";
 
 fn memory_source(alloc: Global, text: &str, fails: &[u64]) -> Result<MemorySource, AllocError> {
     Ok(MemorySource::new(text.as_bytes().to_vec(alloc)?, fails.to_vec(alloc)?))
@@ -49,22 +59,44 @@ fn a_failing_stream_stops_the_run(rt: HostRuntime) -> Result<(), Fail> {
     let alloc = rt.alloc();
     let none: &[u64] = &[];
     let cases = [
-        ("00\n00", [1].as_slice(), none, Status::ReadFault, ""),
+        (LINES, [1].as_slice(), none, Status::ReadFault, ""),
+        (
+            LINES,
+            [2].as_slice(),
+            none,
+            Status::ReadFault,
+            "valid\ninvalid\nvalid\n",
+        ),
+        (
+            LINES,
+            [3].as_slice(),
+            none,
+            Status::Done,
+            "valid\ninvalid\nvalid\n",
+        ),
+        (LINES, none, [1].as_slice(), Status::WriteFault, ""),
+        (LINES, none, [2].as_slice(), Status::WriteFault, "valid\n"),
+        (
+            LINES,
+            none,
+            [3].as_slice(),
+            Status::WriteFault,
+            "valid\ninvalid\n",
+        ),
+        (
+            LINES,
+            none,
+            [4].as_slice(),
+            Status::Done,
+            "valid\ninvalid\nvalid\n",
+        ),
+        // the last line has no end, and is not answered
         (
             "00\n00",
             [2].as_slice(),
             none,
             Status::ReadFault,
             "bad line\n",
-        ),
-        (VALID, [2].as_slice(), none, Status::ReadFault, "valid\n"),
-        (VALID, none, [1].as_slice(), Status::WriteFault, ""),
-        (
-            "00\n00\n00",
-            none,
-            [3].as_slice(),
-            Status::WriteFault,
-            "bad line\nbad line\n",
         ),
     ];
     for (text, read_fails, write_fails, status, answers) in &cases {
@@ -73,6 +105,37 @@ fn a_failing_stream_stops_the_run(rt: HostRuntime) -> Result<(), Fail> {
         let ended = run(alloc, &[], &mut source, &mut sink);
         assert_eq!(rt; ended, *status, "at {text}");
         assert_eq!(rt; sink.written(), answers.as_bytes(), "at {text}");
+    }
+    Ok(())
+}
+
+#[test]
+fn slow_streams_end_with_the_same_bytes(rt: HostRuntime) -> Result<(), Fail> {
+    let alloc = rt.alloc();
+    let mut source = SlowSource::new(LINES.as_bytes().to_vec(alloc)?);
+    let mut sink = SlowSink::new(alloc);
+    assert_eq!(rt; run(alloc, &[], &mut source, &mut sink), Status::Done);
+    assert_eq!(rt; sink.written(), b"valid\ninvalid\nvalid\n".as_slice());
+    Ok(())
+}
+
+// A line of 4,095 bytes and its end fill a piece that is read.
+#[test]
+fn a_line_may_end_with_a_piece(rt: HostRuntime) -> Result<(), Fail> {
+    let alloc = rt.alloc();
+    for count in &[4094, 4095, 4096] {
+        let mut bytes = vec![in alloc; b'0'; *count]?;
+        bytes.push(b'\n')?;
+        bytes.extend_from_slice(VALID.as_bytes())?;
+        let mut source = SteadySource::new(bytes);
+        let mut sink = MemorySink::new(alloc, Vec::new(alloc));
+        let ended = run(alloc, &[], &mut source, &mut sink);
+        assert_eq!(rt; ended, Status::Done, "at {count}");
+        assert_eq!(rt;
+            sink.written(),
+            b"bad line\nvalid\n".as_slice(),
+            "at {count}"
+        );
     }
     Ok(())
 }

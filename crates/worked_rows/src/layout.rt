@@ -78,6 +78,33 @@ fn stored_sums_stand_at_each_thirty_second_entry(rt: HostRuntime) -> Result<(), 
     Ok(())
 }
 
+// The last stored sum among the values of an object of nulls, and the last value.
+#[test]
+fn stored_sums_stand_among_values(rt: HostRuntime) -> Result<(), Fail> {
+    let alloc = rt.alloc();
+    let rows = [(31, 32), (32, 32), (33, 64), (64, 96), (65, 128), (100, 192)];
+    for (count, last) in &rows {
+        let words = [
+            (*last, HAS_OFFSET | NULL | *count, true),
+            (*last, HAS_OFFSET | NULL | (*count - 1), false),
+            (*last, HAS_OFFSET | NULL | (*count + 1), false),
+            (*last, NULL, false),
+            (2 * *count - 1, HAS_OFFSET | NULL | *count, false),
+        ];
+        for (place, word, stands) in &words {
+            let entries = entries(alloc, *count, *count, *place, *word)?;
+            let payload = rising(alloc, *count)?;
+            let bytes = assemble(alloc, OBJECT | *count, &entries, &payload)?;
+            assert_eq!(rt;
+                Jsonb::root(alloc, &bytes).is_ok(),
+                *stands,
+                "at {count} members, {word} at entry {place}"
+            );
+        }
+    }
+    Ok(())
+}
+
 // {"a":[1.5,"é"],"b":true}
 const NESTED: &str = "0200002001000080010000001a00005000000030616200000200\
     00400a0000900200000028000000808001008813c3a9";

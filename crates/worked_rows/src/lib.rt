@@ -1,5 +1,5 @@
 //! Tests that cross the crates: slices, as tables, with the answers that the layout and JSON Schema give them. There is no
-//! code here.
+//! code here but the tests and what they need.
 #![tactic(auto)]
 
 #[cfg(test)]

@@ -19,10 +19,16 @@ fn memory_source(alloc: Global, text: &str, fails: &[u64]) -> Result<MemorySourc
     Ok(MemorySource::new(text.as_bytes().to_vec(alloc)?, fails.to_vec(alloc)?))
 }
 
-fn zeros_after(alloc: Global, text: &str, count: usize) -> Result<SteadySource, AllocError> {
-    let mut bytes = text.as_bytes().to_vec(alloc)?;
+fn zeros_between(
+    alloc: Global,
+    before: &str,
+    count: usize,
+    after: &str,
+) -> Result<SteadySource, AllocError> {
+    let mut bytes = before.as_bytes().to_vec(alloc)?;
     let zeros = vec![in alloc; b'0'; count]?;
     bytes.extend_from_slice(&zeros)?;
+    bytes.extend_from_slice(after.as_bytes())?;
     Ok(SteadySource::new(bytes))
 }
 
@@ -90,6 +96,8 @@ fn a_failing_stream_stops_the_run(rt: HostRuntime) -> Result<(), Fail> {
             Status::Done,
             "valid\ninvalid\nvalid\n",
         ),
+        (VALID, [2].as_slice(), none, Status::ReadFault, "valid\n"),
+        (VALID, none, [1].as_slice(), Status::WriteFault, ""),
         // the last line has no end, and is not answered
         (
             "00\n00",
@@ -144,12 +152,21 @@ fn a_line_may_end_with_a_piece(rt: HostRuntime) -> Result<(), Fail> {
 fn a_long_line_stops_the_run(rt: HostRuntime) -> Result<(), Fail> {
     let alloc = rt.alloc();
     let cases = [
-        ("", 1 << 24, Status::Done, "bad line\n"),
-        ("", (1 << 24) + 1, Status::LineTooLong, ""),
-        ("00\n", (1 << 24) + 1, Status::LineTooLong, "bad line\n"),
+        ("", 1 << 24, "", Status::Done, "bad line\n"),
+        ("", 1 << 24, "\n", Status::Done, "bad line\n"),
+        ("", 1 << 24, "\n00", Status::Done, "bad line\nbad line\n"),
+        ("", (1 << 24) + 1, "", Status::LineTooLong, ""),
+        ("", (1 << 24) + 1, "\n00\n", Status::LineTooLong, ""),
+        (
+            "00\n",
+            (1 << 24) + 1,
+            "\n00\n",
+            Status::LineTooLong,
+            "bad line\n",
+        ),
     ];
-    for (text, count, status, answers) in &cases {
-        let mut source = zeros_after(alloc, text, *count)?;
+    for (text, count, after, status, answers) in &cases {
+        let mut source = zeros_between(alloc, text, *count, after)?;
         let mut sink = MemorySink::new(alloc, Vec::new(alloc));
         let ended = run(alloc, &[], &mut source, &mut sink);
         assert_eq!(rt; ended, *status, "at {count} after {text}");
@@ -166,19 +183,23 @@ fn a_long_line_stops_the_run(rt: HostRuntime) -> Result<(), Fail> {
 fn words_are_none_or_check(rt: HostRuntime) -> Result<(), Fail> {
     let alloc = rt.alloc();
     let cases = [
-        (["check"].as_slice(), Status::Done),
-        (["check", "check"].as_slice(), Status::BadWords),
-        (["Check"].as_slice(), Status::BadWords),
-        ([""].as_slice(), Status::BadWords),
+        (["check"].as_slice(), Status::Done, "valid\n"),
+        (["check", "check"].as_slice(), Status::BadWords, ""),
+        (["Check"].as_slice(), Status::BadWords, ""),
+        ([""].as_slice(), Status::BadWords, ""),
     ];
-    for (texts, status) in &cases {
+    for (texts, status, answers) in &cases {
         let mut words = Vec::new(alloc);
         for text in *texts {
             words.push(String::from_str(alloc, text)?)?;
         }
         let mut source = memory_source(alloc, VALID, &[])?;
-        let mut sink = SteadySink::new();
+        let mut sink = MemorySink::new(alloc, Vec::new(alloc));
         assert_eq!(rt; run(alloc, &words, &mut source, &mut sink), *status);
+        assert_eq!(rt; sink.written(), answers.as_bytes());
+        let mut steady = SteadySink::new();
+        let mut again = memory_source(alloc, VALID, &[])?;
+        assert_eq!(rt; run(alloc, &words, &mut again, &mut steady), *status);
     }
     Ok(())
 }

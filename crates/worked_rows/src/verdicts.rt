@@ -26,6 +26,8 @@ fn judges_the_worked_rows(rt: HostRuntime) -> Result<(), Fail> {
         (EMPTY_OBJECT, NULL, Ok(true)),
         // [], whatever the document is
         ("00000040", "", Err(JudgeError::NotAnObject)),
+        ("00000040", "0000004000", Err(JudgeError::NotAnObject)),
+        ("00000040", NULL, Err(JudgeError::NotAnObject)),
         ("0000", NULL, Err(JudgeError::Keywords(Fault::Malformed))),
         // one byte trails
         (

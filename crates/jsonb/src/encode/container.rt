@@ -19,18 +19,18 @@ const HAS_OFFSET: u32 = 0x8000_0000;
 // 2^25 arrays of one element are the deepest whose payload is below 2^28 bytes.
 const MAX_DEPTH: usize = 1 << 25;
 
-/// The bytes of a header word, of entry words and of a payload, each as it is given: nothing is checked. A word has four
-/// bytes, the low byte first.
+/// The bytes of a header word (the flags and the count), of entry words and of a payload, each as it is given: nothing is
+/// checked. A word has four bytes, the low byte first.
 pub fn assemble(
     alloc: Global,
-    header: u32,
+    flags: u32,
     entries: &[u32],
     payload: &[u8],
 ) -> Result<Vec<u8>, OutOfMemory>
-    ensures { IfOk result (λ bytes. bytes.items ≡ words (header ∷ entries.now) ++ payload.now) }
+    ensures { IfOk result (λ bytes. bytes.items ≡ words (flags ∷ entries.now) ++ payload.now) }
 {
     let mut bytes = Vec::new(alloc);
-    push_word(&mut bytes, header)?;
+    push_word(&mut bytes, flags)?;
     for entry in entries {
         push_word(&mut bytes, *entry)?;
     }
@@ -39,7 +39,7 @@ pub fn assemble(
 }
 
 /// The bytes of so many arrays of one element around an empty one. A depth of more than 2^25 is `TooLarge`, and no other
-/// depth is. It writes eight bytes for each array, from the outermost inwards.
+/// depth is. It writes eight bytes for each of them, from the outermost inwards, and four for the empty one.
 pub fn encode_nested_arrays(alloc: Global, depth: usize) -> Result<Vec<u8>, EncodeError>
     ensures stands { IfOk result (λ bytes. Stands bytes.items (nested_arrays depth)) }
     ensures too_large { (result ≡ Err EncodeError.TooLarge) ↔ 2 ^ 25 < depth }

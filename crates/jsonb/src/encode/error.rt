@@ -2,7 +2,8 @@
 
 use thiserror::Error;
 
-/// Why no bytes are made of what was asked for. The first that stands is answered.
+/// Why no bytes are made of what was asked for. The first that stands is answered. The first three come with the encoding of
+/// numbers, which is not built yet.
 #[derive(Clone, Copy, Debug, PartialEq, Eq, Error)]
 pub enum EncodeError {
     /// A text is no JSON number, as `01`.

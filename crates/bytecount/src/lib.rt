@@ -14,8 +14,8 @@
 //! each later one has. So every slice has an answer, UTF-8 or not: what is counted is bytes, and [`laws`] says that in a
 //! text they are as many as its code points.
 //!
-//! The functions named `naive` look at one byte after the other. [`naive_count_32`] does so with a sum of 32 bits. Each
-//! call reads every byte once and takes no memory.
+//! [`count`] and [`num_chars`] call [`naive_count`] and [`naive_num_chars`], which look at one byte after the other.
+//! [`naive_count_32`] does so with a sum of 32 bits. Each call reads every byte once and takes no memory.
 #![tactic(auto)]
 
 mod chars;

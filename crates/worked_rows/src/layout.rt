@@ -82,7 +82,14 @@ fn stored_sums_stand_at_each_thirty_second_entry(rt: HostRuntime) -> Result<(), 
 #[test]
 fn stored_sums_stand_among_values(rt: HostRuntime) -> Result<(), Fail> {
     let alloc = rt.alloc();
-    let rows = [(31, 32), (32, 32), (33, 64), (64, 96), (65, 128), (100, 192)];
+    let rows = [
+        (31, 32),
+        (32, 32),
+        (33, 64),
+        (64, 96),
+        (65, 128),
+        (100, 192),
+    ];
     for (count, last) in &rows {
         let words = [
             (*last, HAS_OFFSET | NULL | *count, true),

@@ -1,0 +1,3 @@
+mod BitLaws
+mod ByteLaws
+mod ListLaws

@@ -1,0 +1,4 @@
+pub mod Names
+pub mod Weights
+pub mod Sets
+pub mod Iteration

@@ -1,0 +1,88 @@
+use crate::types::{JsonType, JsonTypeSet, number_is_integer};
+use json_exact::{Decimal, Number};
+
+const NAMES: [(&str, JsonType); 7] = [
+    ("null", JsonType::Null),
+    ("boolean", JsonType::Boolean),
+    ("integer", JsonType::Integer),
+    ("number", JsonType::Number),
+    ("string", JsonType::String),
+    ("array", JsonType::Array),
+    ("object", JsonType::Object),
+];
+
+#[test]
+fn names_are_read_and_written(rt: HostRuntime) {
+    for (name, ty) in NAMES {
+        assert_eq!(rt; ty.as_str(), name);
+        assert!(rt; name.parse::<JsonType>() == Ok(ty), "{name}");
+        let Ok(text) = format!(in rt.alloc(); "{ty}") else {
+            panic!(rt; "no memory");
+        };
+        assert_eq!(rt; text.as_str(), name);
+    }
+    for name in ["", "int", "Null", "strings", " null"] {
+        assert!(rt; name.parse::<JsonType>() == Err(()), "{name}");
+    }
+}
+
+#[test]
+fn sets_show_their_names_in_order(rt: HostRuntime) {
+    let table = [
+        (JsonTypeSet::default(), "()"),
+        (JsonTypeSet::from(JsonType::Null), "(null)"),
+        (JsonType::String | JsonType::Number, "(number, string)"),
+        (
+            JsonTypeSet::all(),
+            "(null, boolean, integer, number, string, array, object)",
+        ),
+    ];
+    for (set, shown) in table {
+        let Ok(text) = format!(in rt.alloc(); "{set:?}") else {
+            panic!(rt; "no memory");
+        };
+        assert_eq!(rt; text.as_str(), shown);
+    }
+}
+
+#[test]
+fn sets_hold_what_is_put_in(rt: HostRuntime) {
+    let set = JsonTypeSet::empty().insert(JsonType::Object) | JsonType::Integer;
+    assert_eq!(rt; set.len(), 2);
+    assert!(rt; !set.is_empty());
+    assert!(rt; set.contains(JsonType::Integer));
+    assert!(rt; !set.contains(JsonType::Number));
+    assert!(rt; set.remove(JsonType::Object) == JsonTypeSet::from(JsonType::Integer));
+    assert!(rt;
+        set.intersect(JsonType::Object | JsonType::Array) == JsonTypeSet::from(JsonType::Object)
+    );
+    assert!(rt; set.union(JsonTypeSet::all()) == JsonTypeSet::all());
+}
+
+#[test]
+fn iterators_give_each_type_once(rt: HostRuntime) {
+    let set = JsonType::Array | JsonType::Boolean;
+    let mut types = set.iter();
+    assert_eq!(rt; types.len(), 2);
+    assert!(rt; types.size_hint() == (2, Some(2)));
+    assert!(rt; types.next() == Some(JsonType::Boolean));
+    assert!(rt; types.next() == Some(JsonType::Array));
+    assert!(rt; types.next().is_none());
+    assert!(rt; types.next().is_none());
+    let mut count = 0u32;
+    for _ in set {
+        count = count.wrapping_add(1);
+    }
+    for _ in &set {
+        count = count.wrapping_add(1);
+    }
+    assert_eq!(rt; count, 4);
+}
+
+#[test]
+fn one_point_zero_is_an_integer(rt: HostRuntime) {
+    let Some(one) = Decimal::from_groups(false, 0, &[1, 0]) else {
+        panic!(rt; "1 is narrow");
+    };
+    assert!(rt; number_is_integer(&Number::new(one, 1)));
+}

@@ -194,15 +194,20 @@ impl<'a> IntoIterator for &'a JsonTypeSet {
 
 /// Writes `(`, the names in order with `, ` between them, and `)`.
 impl fmt::Debug for JsonTypeSet {
+    ghost use Rattle.std.specs.Prelude.{Some};
+    ghost use Rattle.json_traits.specs.Shown.{shown};
+
+    ghost debug_output = { λ set. Some (shown set) };
+
     fn fmt<W: fmt::Write>(&self, f: &mut fmt::Formatter<W>) -> fmt::Result {
         f.write_str("(")?;
-        let mut first = true;
-        for ty in self.iter() {
-            if !first {
+        let mut types = self.iter();
+        if let Some(first) = types.next() {
+            f.write_str(first.as_str())?;
+            for ty in types {
                 f.write_str(", ")?;
+                f.write_str(ty.as_str())?;
             }
-            f.write_str(ty.as_str())?;
-            first = false;
         }
         f.write_str(")")
     }

@@ -70,8 +70,8 @@ is_number t = is_some (as_number t)
 abbrev pub is_string : Tree → Bool
 is_string t = is_some (as_string t)
 
--- the tree under a key
-abbrev pub lookup : List ℕ → List (List ℕ × Tree) → Option Tree
+-- what stands under a key
+abbrev pub lookup : {A : Type 0} → List ℕ → List (List ℕ × A) → Option A
 lookup k [] = None
 lookup k (p ∷ ps) = if bytes_eq k p.0 then Some p.1 else lookup k ps
 

@@ -1,0 +1,5 @@
+pub mod Order
+pub mod Lookups
+pub mod Members
+pub mod Counted
+pub mod Repeated

@@ -25,7 +25,8 @@ abbrev pub after : ℕ → ℕ → List ℕ → ℕ
 after b n [] = n
 after b n (d ∷ ds) = after b (n * b + d) ds
 
-after_is : (b n : ℕ) (ds : List ℕ) → after b n ds ≡ n * b ^ length ds + joined b ds
+-- digits behind n make n times a power of the base, and what they are joined
+pub after_is : (b n : ℕ) (ds : List ℕ) → after b n ds ≡ n * b ^ length ds + joined b ds
 after_is b n [] = let e : b ^ 0 ≡ 1 = simp unary_clauses in rw e (omega arith)
 after_is b n (d ∷ ds) = after_is b (n * b + d) ds ∙ step n b d (b ^ length ds) (b ^ suc (length ds)) (joined b ds) (pow-suc b (length ds))
   where

@@ -1,12 +1,14 @@
 -- A whole number is a sign and a magnitude.
-use Rattle.std.proofs.Common.{◌≡◌, ℕ, zero, suc, ◌*◌, ◌<◌, Bool, true, false, refl, sym, ap, subst, ◌∙◌, arith, ℤ, pos, nat_abs}
+use Rattle.std.proofs.Common.{◌≡◌, ℕ, zero, suc, ◌*◌, ◌<◌, Bool, true, false, refl, sym, ap, subst, ◌∙◌, arith, ℤ, pos, negsuc, nat_abs}
 use Rattle.std.specs.Prelude.{◌*ℤ◌, int_lt}
 use Rattle.std.proofs.Math.Nat.{eq_of_mul-eq-mul_right}
+use Rattle.std.proofs.lemmas.Bool.{le-ltb}
 use Rattle.json_exact.specs.Exact.{signed}
 use Rattle.json_exact.specs.DecimalInverseLaws.{abs_signed, sign_signed}
 use Rattle.json_exact.specs.NumberInverseLaws.{signed_times, sign_abs}
 
-times : (d : ℤ) (p : ℕ) → d *ℤ pos p ≡ signed (int_lt d (pos 0)) (nat_abs d * p)
+-- a product has the sign of the number, and the magnitude times the factor
+pub times : (d : ℤ) (p : ℕ) → d *ℤ pos p ≡ signed (int_lt d (pos 0)) (nat_abs d * p)
 times d p = ap (λ (x : ℤ). x *ℤ pos p) (sign_abs d) ∙ signed_times (int_lt d (pos 0)) (nat_abs d) p
 
 pub abs_times : (d : ℤ) (p : ℕ) → nat_abs (d *ℤ pos p) ≡ nat_abs d * p
@@ -23,6 +25,15 @@ twice d a b =
 
 pub turn : (d : ℤ) (a b : ℕ) → (d *ℤ pos a) *ℤ pos b ≡ (d *ℤ pos b) *ℤ pos a
 turn d a b = twice d a b ∙ ap (λ (x : ℕ). d *ℤ pos x) (let e : a * b ≡ b * a = omega arith in e) ∙ sym (twice d b a)
+
+-- a factor above 0 keeps the sign
+pub sign_times : (d : ℤ) (p : ℕ) → 0 < p → int_lt (d *ℤ pos p) (pos 0) ≡ int_lt d (pos 0)
+sign_times (pos n) p some = ap (λ (x : ℤ). int_lt x (pos 0)) (signed_times false n p) ∙ le-ltb (n * p) 0 (omega arith) ∙ sym (le-ltb n 0 (omega arith))
+sign_times (negsuc n) p some = ap (λ (x : ℤ). int_lt x (pos 0)) (signed_times true (suc n) p) ∙ sign_signed true (suc n * p) (positive n p some)
+  where
+    positive : (n p : ℕ) → 0 < p → 0 < suc n * p
+    positive n zero h = absurd (omega arith)
+    positive n (suc p) h = omega arith
 
 -- a product tells its factor
 pub cancel : (d e : ℤ) (p : ℕ) → 0 < p → d *ℤ pos p ≡ e *ℤ pos p → d ≡ e

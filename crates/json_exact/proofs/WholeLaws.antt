@@ -26,7 +26,8 @@ pub record Sized (ds : List ℕ) (top q : ℕ) : Type 0 where
 small : (ds : List ℕ) (top q : ℕ) → Sized ds top q → joined 10 ds < 10 ^ 38
 small ds top q h = subst (λ (k : ℕ). joined 10 ds < 10 ^ k) h.count (joined_below 10 ds h.below)
 
-high : (ds : List ℕ) (top q : ℕ) → Sized ds top q → q < 10 ^ top
+-- a number of so many digits is below the least one with more
+pub high : (ds : List ℕ) (top q : ℕ) → Sized ds top q → q < 10 ^ top
 high ds top q h =
     let a : joined 10 ds * 10 ^ top < 10 ^ 38 * 10 ^ top = mul-lt-mul_of_pos_right (small ds top q h) (ten_pos top) in
     let s = h.size in omega arith
@@ -173,7 +174,8 @@ tells ds top q h = elim (cases_lt top 16384) [
     none_left : {es : List ℕ} → es ≡ [] → AreZeros es
     none_left {es} e = subst (λ (xs : List ℕ). AreZeros xs) (sym e) (All-nil (λ d. d ≡ 0))
 
-sized : (a : Inside) (d : ℤ) → IsFields a → parts_of a ≡ d → (q : ℕ) × Sized a.digits a.top q × (d ≡ signed a.negative q)
+-- the value that contracts see is the number of the fields, with their sign
+pub sized : (a : Inside) (d : ℤ) → IsFields a → parts_of a ≡ d → (q : ℕ) × Sized a.digits a.top q × (d ≡ signed a.negative q)
 unfolding parts_of
 sized a d h e = (
   h.exact.0,

@@ -9,7 +9,7 @@ use Rattle.json_exact.specs.DecimalInverseLaws.{ten_pos}
 use Rattle.json_exact.proofs.SignLaws.{abs_times, turn, cancel}
 use Rattle.json_exact.proofs.NarrowLaws.{narrow_same}
 
-parts_pos : 0 < parts
+pub parts_pos : 0 < parts
 unfolding parts
 parts_pos = ten_pos 16383
 
@@ -63,16 +63,18 @@ unfolding parts
 narrow_as_written d w f =
     (narrow_same (nat_abs w.digits) (nat_abs d) 16383 w.places (sym (sizes d w f)), narrow_same (nat_abs d) (nat_abs w.digits) w.places 16383 (sizes d w f))
 
--- so many fraction digits write the value exactly, as `Number::new` asks
-pub exact_as_written : (d : ℤ) (w : Written) → IsWorth d w → w.places ≤ 16383 → (q : ℕ) × (nat_abs d ≡ q * 10 ^ (16383 - w.places))
+-- what is written, in parts
+pub worth_in_parts : (d : ℤ) (w : Written) → IsWorth d w → w.places ≤ 16383 → nat_abs d ≡ nat_abs w.digits * 10 ^ (16383 - w.places)
 unfolding parts
-exact_as_written d w f le =
-    let i : 16383 - w.places + w.places ≡ 16383 = omega arith in (
-      nat_abs w.digits,
-      eq_of_mul-eq-mul_right (10 ^ w.places) (ten_pos w.places) (nat_abs d) (nat_abs w.digits * 10 ^ (16383 - w.places))
-          (sizes d w f ∙ ap (λ (x : ℕ). nat_abs w.digits * x) (ap (λ (k : ℕ). 10 ^ k) (sym i) ∙ pow-add 10 (16383 - w.places) w.places)
-          ∙ products (nat_abs w.digits) (10 ^ (16383 - w.places)) (10 ^ w.places)),
-    )
+worth_in_parts d w f le =
+    let i : 16383 - w.places + w.places ≡ 16383 = omega arith in
+    eq_of_mul-eq-mul_right (10 ^ w.places) (ten_pos w.places) (nat_abs d) (nat_abs w.digits * 10 ^ (16383 - w.places))
+    (sizes d w f ∙ ap (λ (x : ℕ). nat_abs w.digits * x) (ap (λ (k : ℕ). 10 ^ k) (sym i) ∙ pow-add 10 (16383 - w.places) w.places)
+    ∙ products (nat_abs w.digits) (10 ^ (16383 - w.places)) (10 ^ w.places))
   where
     products : (x y z : ℕ) → x * (y * z) ≡ x * y * z
     products x y z = omega arith
+
+-- so many fraction digits write the value exactly, as `Number::new` asks
+pub exact_as_written : (d : ℤ) (w : Written) → IsWorth d w → w.places ≤ 16383 → (q : ℕ) × (nat_abs d ≡ q * 10 ^ (16383 - w.places))
+exact_as_written d w f le = (nat_abs w.digits, worth_in_parts d w f le)

@@ -1,28 +1,15 @@
 -- The fields of a `Decimal` follow from the parts that it is, which lets the type be Copy. This project's own.
 -- Lemmas, which stand here and not in proofs/ only because an `inverse_ok` reads no other folder. Nothing here need be believed.
-use Rattle.std.proofs.Common.{◌≡◌, ℕ, zero, suc, ◌+◌, ◌*◌, ◌/◌, ◌%◌, ◌^◌, ◌<◌, ◌≤◌, Bool, true, false, List, [], ◌∷◌, length, refl, sym, ap, subst, ◌∙◌, ◌⊎◌, arith, inl, inr, ℤ, pos, nat_abs}
-use Rattle.std.specs.Prelude.{int_lt, ◌==◌}
+use Rattle.std.proofs.Common.{◌≡◌, ℕ, zero, suc, ◌+◌, ◌*◌, ◌/◌, ◌^◌, ◌<◌, ◌≤◌, Bool, true, false, List, [], ◌∷◌, length, refl, sym, ap, subst, ◌∙◌, ◌⊎◌, arith, inl, inr, ℤ, pos, nat_abs}
+use Rattle.std.specs.Prelude.{int_lt}
 use Rattle.std.proofs.Math.Nat.{pow-suc, mul-div_cancel, mul-lt-mul_of_pos_right, mul-le-mul_right}
 use Rattle.std.proofs.lemmas.Nat.{div-mul-add, mod-mul-add}
 use Rattle.std.proofs.lemmas.Bool.{le-ltb, ne_eqb}
 use native.Mathlib.Numerals.{unary_clauses}
 use Rattle.json_exact.specs.Exact.{signed}
-use Rattle.json_exact.specs.Digits.{joined, AllBelow}
+use Rattle.json_exact.specs.Digits.{joined, AllBelow, spread, count_in, count}
 use Rattle.json_exact.specs.DecimalFields.{size_of, parts_of, IsZero, IsFields}
 use Rattle.json_exact.specs.declared.decimal.Decimal.TheInside.{Inside}
-
--- the last `n` digits of a number
-abbrev pub spread : ℕ → ℕ → ℕ → List ℕ
-spread b zero m = []
-spread b (suc n) m = (m / b ^ n) ∷ spread b n (m % b ^ n)
-
--- how many decimal digits a number has, 0 of which has none
-abbrev pub count_in : ℕ → ℕ → ℕ
-count_in zero n = 0
-count_in (suc fuel) n = elim (n == 0) [ true ↦ 0 | false ↦ suc (count_in fuel (n / 10)) ]
-
-unfoldable pub count : ℕ → ℕ
-count n = count_in n n
 
 unfoldable pub fields_of : ℤ → Inside
 fields_of d = record {
@@ -63,10 +50,10 @@ spread_joined b (d ∷ ds) h =
     let lt = joined_below b ds h.1 in
     rw (div-mul-add d (b ^ length ds) (joined b ds) lt, mod-mul-add d (b ^ length ds) (joined b ds) lt, spread_joined b ds h.1) refl
 
-count_step : (fuel n : ℕ) → 0 < n → count_in (suc fuel) n ≡ suc (count_in fuel (n / 10))
+pub count_step : (fuel n : ℕ) → 0 < n → count_in (suc fuel) n ≡ suc (count_in fuel (n / 10))
 count_step fuel n p = ap (λ (t : Bool). elim t as (λ _. ℕ) [ true ↦ 0 | false ↦ suc (count_in fuel (n / 10)) ]) (ne_eqb n 0 (λ e. absurd (omega arith)))
 
-count_zero : (fuel : ℕ) → count_in fuel 0 ≡ 0
+pub count_zero : (fuel : ℕ) → count_in fuel 0 ≡ 0
 count_zero zero = refl
 count_zero (suc fuel) = refl
 

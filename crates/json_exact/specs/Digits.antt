@@ -1,5 +1,5 @@
--- The number that digits make in a base: positional notation, the highest digit first.
-use Rattle.std.specs.Prelude.{ℕ, ◌+◌, ◌*◌, ◌^◌, ◌<◌, List, [], ◌∷◌, length}
+-- The number that digits make in a base, and the digits of a number: positional notation, the highest digit first.
+use Rattle.std.specs.Prelude.{ℕ, zero, suc, ◌+◌, ◌*◌, ◌/◌, ◌%◌, ◌^◌, ◌<◌, true, false, ◌==◌, List, [], ◌∷◌, length}
 
 abbrev pub joined : ℕ → List ℕ → ℕ
 joined b [] = 0
@@ -9,3 +9,17 @@ joined b (d ∷ ds) = d * b ^ length ds + joined b ds
 abbrev pub AllBelow : ℕ → List ℕ → Type 0
 AllBelow b [] = Unit {0}
 AllBelow b (d ∷ ds) = (d < b) × AllBelow b ds
+
+-- the last `n` digits of a number that has no more, zeros in front
+abbrev pub spread : ℕ → ℕ → ℕ → List ℕ
+spread b zero m = []
+spread b (suc n) m = (m / b ^ n) ∷ spread b n (m % b ^ n)
+
+-- how many decimal digits a number has that is at most `fuel`
+abbrev pub count_in : ℕ → ℕ → ℕ
+count_in zero n = 0
+count_in (suc fuel) n = elim (n == 0) [ true ↦ 0 | false ↦ suc (count_in fuel (n / 10)) ]
+
+-- how many decimal digits a number has, none leading: 0 has none
+unfoldable pub count : ℕ → ℕ
+count n = count_in n n

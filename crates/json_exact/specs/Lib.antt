@@ -1,8 +1,15 @@
 pub mod Exact
 pub mod Digits
+pub mod Text
 pub mod Groups
+pub mod Literal
+pub mod Parsed
+pub mod Reading
+pub mod LiteralParts
 pub mod SignificantDigits
 pub mod DecimalFields
 pub mod NumberFields
 pub mod DecimalInverseLaws
 pub mod NumberInverseLaws
+pub mod Trees
+pub mod MapIteration

@@ -1,20 +1,22 @@
 //! `Decimal`: an exact decimal of at most 38 digits.
 
-ghost use Rattle.std.specs.Prelude.{ℕ, ◌+◌, ◌*◌, ◌^◌, ◌≤◌, ◌<◌, ◌≡◌, ◌↔◌, nat_abs, false, length, drop, All, MatchOption, IfSome, IsTrue};
+ghost use Rattle.std.specs.Prelude.{ℕ, ◌+◌, ◌*◌, ◌/◌, ◌%◌, ◌^◌, ◌≤◌, ◌<◌, ◌≡◌, ◌↔◌, pos, ◌*ℤ◌, nat_abs, int_lt, false, length, drop, All, MatchOption, IfSome, IsTrue};
+ghost use Rattle.std.specs.Ordering.{nat_cmp};
 ghost use Rattle.json_model.specs.Decimal.{HasNarrowDigits, IsWhole};
-ghost use Rattle.json_exact.specs.Digits.{joined};
-ghost use Rattle.json_exact.specs.Exact.{signed, exactly, IsWithinLimits};
+ghost use Rattle.json_exact.specs.Digits.{joined, count};
+ghost use Rattle.json_exact.specs.Exact.{signed, exactly, parts, IsWithinLimits};
 ghost use Rattle.json_exact.specs.Groups.{groups_of, lifted, AreGroups, AreWorth};
 ghost use Rattle.json_exact.specs.SignificantDigits.{Holds};
 
 use crate::significant_digits::SignificantDigits;
+use std::cmp::Ordering;
 use std::marker::Model;
 
 /// How many fraction digits write each `Decimal` exactly.
-const FRACTION_DIGITS: u32 = 16_383;
+pub(crate) const FRACTION_DIGITS: u32 = 16_383;
 
 /// An exact decimal: at most 38 digits from the first to the last that is not 0, of a magnitude below 10^131072, and
-/// written exactly by 16,383 fraction digits. `==` compares values. Zero has no sign.
+/// written exactly by 16,383 fraction digits. `==` and `<` compare values. Zero has no sign.
 #[derive(Clone, Copy, Debug)]
 pub struct Decimal {
     negative: bool,
@@ -77,7 +79,12 @@ fn ends_in_zeros(digits: &[u8], index: usize) -> bool
 impl Decimal {
     /// The decimal whose magnitude, in units of its last of `FRACTION_DIGITS` fraction digits, is the number that
     /// `digits` holds times 10^`up` divided by 10^`down`.
-    fn from_digits(negative: bool, digits: SignificantDigits, up: u128, down: u128) -> Decimal
+    pub(crate) fn from_digits(
+        negative: bool,
+        digits: SignificantDigits,
+        up: u128,
+        down: u128,
+    ) -> Decimal
         requires up { up < 2 ^ 100 }
         requires down { down < 2 ^ 100 }
         requires kept { digits.too_wide ≡ false }
@@ -106,7 +113,7 @@ impl Decimal {
     /// `groups`, the lower first, and the empty slice gives zero.
     ///
     /// `None` where the sum has more than 38 digits from the first to the last that is not 0. The shortest `groups` that
-    /// give it are ten: 100, eight times 0, and 1. The caller knows that 16,383 fraction digits write the sum exactly.
+    /// give it are ten, as 100, eight times 0, and 1. The caller knows that 16,383 fraction digits write the sum exactly.
     pub fn from_groups(negative: bool, weight: i16, groups: &[u8]) -> Option<Decimal>
         requires groups { AreGroups groups.now }
         requires exact { (q : ℕ) × AreWorth weight (groups_of groups.now) q }
@@ -123,6 +130,41 @@ impl Decimal {
         Some(Decimal::from_digits(negative, digits, up, down))
     }
 
+    /// The decimal of the same value. It needs no memory.
+    pub fn from_u64(value: u64) -> Decimal
+        ensures value { result ≡ pos (value * parts) }
+        ensures limits { IsWithinLimits result }
+    {
+        Decimal::from_digits(
+            false,
+            SignificantDigits::of_number(value),
+            FRACTION_DIGITS as u128,
+            0,
+        )
+    }
+
+    /// The decimal of the same value. It needs no memory.
+    pub fn from_i64(value: i64) -> Decimal
+        ensures value { result ≡ value *ℤ pos parts }
+        ensures limits { IsWithinLimits result }
+    {
+        Decimal::from_digits(
+            value < 0,
+            SignificantDigits::of_number(value.unsigned_abs()),
+            FRACTION_DIGITS as u128,
+            0,
+        )
+    }
+
+    /// The order of the two magnitudes. A magnitude of more digits is larger, since its first digit is not 0.
+    fn compare_magnitudes(&self, other: &Decimal) -> Ordering
+        ensures { result ≡ nat_cmp (nat_abs self.now) (nat_abs other.now) }
+    {
+        self.top
+            .cmp(&other.top)
+            .then(self.digits.cmp(&other.digits))
+    }
+
     /// Whether the value is whole, as that of `1.0` is.
     pub fn is_integer(&self) -> bool
         ensures whole { IsTrue result ↔ IsWhole (exactly self.now) }
@@ -134,6 +176,35 @@ impl Decimal {
             &self.digits,
             self.top.saturating_sub(FRACTION_DIGITS) as usize,
         )
+    }
+
+    /// Whether the value is below zero.
+    pub(crate) fn is_negative(&self) -> bool
+        ensures { result ≡ int_lt self.now (pos 0) }
+    {
+        self.negative
+    }
+
+    /// How many digits the magnitude has when it is written with `FRACTION_DIGITS` fraction digits, from the first that
+    /// is not 0; 0 where the value is.
+    pub(crate) fn digit_count(&self) -> u32
+        ensures { result ≡ count (nat_abs self.now) }
+    {
+        self.top
+    }
+
+    /// The digit at a place of the magnitude. The last of `FRACTION_DIGITS` fraction digits has place 0.
+    pub(crate) fn digit_at(&self, place: u32) -> u8
+        ensures { result ≡ nat_abs self.now / 10 ^ place % 10 }
+    {
+        if place >= self.top {
+            return 0;
+        }
+        let index = (self.top - 1 - place) as usize;
+        if index >= self.digits.len() {
+            return 0;
+        }
+        self.digits[index]
     }
 }
 
@@ -156,4 +227,43 @@ impl Eq for Decimal {
     ghost use Rattle.std.specs.Cmp.Rules.{comparing};
 
     ghost laws = { Prim.search (comparing, rules) };
+}
+
+impl Ord for Decimal {
+    ghost use Rattle.std.specs.Ordering.{int_cmp};
+    ghost use Rattle.std.proofs.Common.{rules};
+    ghost use Rattle.std.specs.Cmp.Rules.{comparing};
+
+    ghost cmp = { int_cmp };
+
+    ghost total = { Prim.search (comparing, rules) };
+
+    ghost matches_partial_cmp = { Prim.search (comparing, rules) };
+
+    ghost matches_eq = { Prim.search (comparing, rules) };
+
+    fn cmp(&self, other: &Decimal) -> Ordering {
+        match (self.negative, other.negative) {
+            (false, false) => self.compare_magnitudes(other),
+            (false, true) => Ordering::Greater,
+            (true, false) => Ordering::Less,
+            // Of two negative values, the one of the larger magnitude is the lesser.
+            (true, true) => other.compare_magnitudes(self),
+        }
+    }
+}
+
+impl PartialOrd for Decimal {
+    ghost use Rattle.std.specs.Ordering.{int_cmp, as_partial_cmp};
+    ghost use Rattle.std.proofs.Common.{rules};
+    ghost use Rattle.std.specs.Cmp.{partial_order_from_own_ties};
+    ghost use Rattle.std.specs.Cmp.Rules.{comparing};
+
+    ghost partial_cmp = { as_partial_cmp int_cmp };
+
+    ghost laws = { partial_order_from_own_ties (Prim.search (comparing, rules)) (Prim.search (comparing, rules)) };
+
+    fn partial_cmp(&self, other: &Decimal) -> Option<Ordering> {
+        Some(self.cmp(other))
+    }
 }

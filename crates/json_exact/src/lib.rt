@@ -1,34 +1,51 @@
-//! Exact decimals: the numbers of JSON, which have neither a binary fraction nor a rounding.
+//! Exact decimals, and JSON values that are made of them: numbers have neither a binary fraction nor a rounding.
 //!
-//! A `Decimal` is a value: `1` and `1.0` are one `Decimal`. A `Number` is a decimal with the count of fraction digits
-//! that it is written with, so `1` and `1.0` are two numbers of one value.
-//!
-//! For example, the groups of four digits that PostgreSQL's `numeric` stores for 12345.67 are 1, 2345 and 6700, with
-//! weight 1: their sum is 1 × 10000^1 + 2345 × 10000^0 + 6700 × 10000^-1.
+//! A [`Decimal`] is a value: `1` and `1.0` are one `Decimal`. A [`Number`] is a decimal with the count of fraction digits
+//! that it is written with, so `1` and `1.0` are two numbers of one value. A [`Value`] is any JSON value, whose objects are
+//! [`Map`]s in key order.
 //!
 //! ```text
-//! let value = Decimal::from_groups(false, 1, &[1, 0, 0x29, 0x09, 0x2c, 0x1a])?;   // 12345.67
-//! value.is_integer();                                                             // false
-//! let number = Number::new(value, 3);                                             // 12345.670
-//! number.fraction_digits();                                                       // 3
+//! let number = Number::parse("1.50")?;                     // value 3/2, written with 2 fraction digits
+//! number.to_text(alloc)?;                                  // "1.50"
+//! number.decimal() == Decimal::parse("15e-1")?;            // true
+//! Decimal::parse("-2")? < Decimal::from_i64(-1);           // true
+//! Decimal::parse("7.0")?.to_u64();                         // Some(7)
+//! Decimal::from_groups(false, 1, &[1, 0, 0x29, 0x09]);     // 12345, from the groups 1 and 2345 of PostgreSQL's `numeric`
+//! map.insert(key, Value::Number(number))?;                 // the old value under the key, if any
 //! ```
 //!
-//! The notation is that of RFC 8259, section 6. The limits are this project's own: a decimal has at most 38 digits from
-//! the first to the last that is not 0, its magnitude is below 10^131072, and 16,383 fraction digits write it exactly.
-//! What is wider is refused: `from_groups` answers `None`. No call takes memory.
+//! The notation is that of RFC 8259, section 6, and the values those of section 3. The limits are this project's own: a
+//! decimal has at most 38 digits from the first to the last that is not 0, its magnitude is below 10^131072, and 16,383
+//! fraction digits write it exactly. `from_groups` answers `None` where there are more digits, and `parse` a [`NumberError`].
+//! Only `Number::to_text`, `Map::insert` of a new key and `Map::from_members` may take memory.
 //!
-//! Contracts see a `Decimal` as a whole number of parts, of which 10^16383 make one (`specs/Exact.antt`), and a `Number`
-//! as the record of its digits and its fraction digits that `json_model` calls `Decimal`.
+//! Contracts see a `Decimal` as a whole number of parts, of which 10^16383 make one (`specs/Exact.antt`), a `Number` as the
+//! record of its digits and its fraction digits that `json_model` calls `Decimal`, and a `Value` as its tree
+//! (`specs/Trees.antt`). [`laws`] says what holds of all of them.
 #![tactic(auto)]
 
 mod decimal;
+pub mod laws;
+mod literal;
+mod map;
+mod map_iter;
 mod number;
+mod number_error;
 mod out_of_memory;
+mod parse;
 mod significant_digits;
+mod text;
+mod value;
+mod whole;
 
 pub use decimal::Decimal;
+pub use key_map::MapError;
+pub use map::{InsertError, Map, Member};
+pub use map_iter::MapIter;
 pub use number::Number;
+pub use number_error::NumberError;
 pub use out_of_memory::OutOfMemory;
+pub use value::Value;
 
 #[cfg(test)]
 mod tests;

@@ -1,6 +1,6 @@
 //! `SignificantDigits`: the digits of a number that are pushed one after another, as far as a `Decimal` keeps them.
 
-ghost use Rattle.std.specs.Prelude.{ℕ, ◌+◌, ◌*◌, ◌<◌, ◌≤◌, ◌^◌, ◌≡◌};
+ghost use Rattle.std.specs.Prelude.{ℕ, ◌+◌, ◌*◌, ◌<◌, ◌≤◌, ◌^◌, ◌≡◌, false};
 ghost use Rattle.json_exact.specs.SignificantDigits.{Holds};
 
 /// The first 38 digits of a number, from the first that is not 0.
@@ -54,5 +54,20 @@ impl SignificantDigits {
         self.push((group / 100 % 10) as u8);
         self.push((group / 10 % 10) as u8);
         self.push((group % 10) as u8);
+    }
+
+    /// The digits of a whole number.
+    pub fn of_number(number: u64) -> SignificantDigits
+        ensures len { result.len ≤ 20 }
+        ensures kept { result.too_wide ≡ false }
+        ensures holds { Holds result number }
+    {
+        let mut digits = SignificantDigits::new();
+        digits.push_group((number / 10_000_000_000_000_000) as u16);
+        digits.push_group((number / 1_000_000_000_000 % 10_000) as u16);
+        digits.push_group((number / 100_000_000 % 10_000) as u16);
+        digits.push_group((number / 10_000 % 10_000) as u16);
+        digits.push_group((number % 10_000) as u16);
+        digits
     }
 }

@@ -2,6 +2,7 @@ use crate::decimal::Decimal;
 use crate::number::Number;
 use crate::out_of_memory::OutOfMemory;
 use std::alloc::Global;
+use std::cmp::Ordering;
 use std::error::Error;
 
 #[test]
@@ -33,6 +34,54 @@ fn decimals_are_their_values(rt: HostRuntime) {
     assert!(rt; one != half);
 }
 
+fn greatest_of<T: Ord + Copy>(one: T, other: T) -> T {
+    one.max(other)
+}
+
+#[test]
+fn whole_numbers_keep_their_value(rt: HostRuntime) {
+    // 18,446,744,073,709,551,615
+    let largest = Decimal::from_groups(
+        false,
+        4,
+        &[0x34, 0x07, 0x58, 0x1a, 0xe1, 0x02, 0xbb, 0x03, 0x4f, 0x06],
+    );
+    // -9,223,372,036,854,775,808
+    let least = Decimal::from_groups(
+        true,
+        4,
+        &[0x9a, 0x03, 0x2c, 0x0d, 0x70, 0x01, 0x65, 0x15, 0xb0, 0x16],
+    );
+    let seven = Decimal::from_groups(false, 0, &[7, 0]);
+    assert!(rt; largest == Some(Decimal::from_u64(u64::MAX)));
+    assert!(rt; least == Some(Decimal::from_i64(i64::MIN)));
+    assert_eq!(rt;
+        seven.map(|d| d.cmp(&Decimal::from_u64(7))),
+        Some(Ordering::Equal)
+    );
+}
+
+#[test]
+fn machine_integers_come_back(rt: HostRuntime) {
+    assert_eq!(rt; Decimal::from_u64(u64::MAX).to_u64(), Some(u64::MAX));
+    assert_eq!(rt; Decimal::from_i64(i64::MIN).to_i64(), Some(i64::MIN));
+    assert_eq!(rt; Decimal::from_i64(-1).to_u64(), None);
+    assert_eq!(rt; Decimal::from_u64(1 << 63).to_i64(), None);
+}
+
+#[test]
+fn decimals_are_in_the_order_of_their_values(rt: HostRuntime) {
+    let table = [
+        ("-2 < -1", Decimal::from_i64(-2), Decimal::from_i64(-1)),
+        ("-1 < 0", Decimal::from_i64(-1), Decimal::from_u64(0)),
+        ("3 < 12", Decimal::from_u64(3), Decimal::from_u64(12)),
+    ];
+    for (name, lesser, greater) in table {
+        assert!(rt; lesser < greater, "{name}");
+        assert!(rt; greatest_of(greater, lesser) == greater, "{name}");
+    }
+}
+
 #[test]
 fn numbers_keep_their_fraction_digits(rt: HostRuntime) {
     let Some(one) = Decimal::from_groups(false, 0, &[1, 0]) else {
@@ -46,6 +95,24 @@ fn numbers_keep_their_fraction_digits(rt: HostRuntime) {
     assert!(rt; number != Number::new(one, 0));
 }
 
+#[test]
+fn numbers_are_written_with_their_fraction_digits(rt: HostRuntime) {
+    let Some(minus_five_hundredths) = Decimal::from_groups(true, -1, &[0xf4, 0x01]) else {
+        panic!(rt; "-0.05 is narrow");
+    };
+    let Some(zero) = Decimal::from_groups(false, 0, &[]) else {
+        panic!(rt; "0 is narrow");
+    };
+    let Ok(text) = Number::new(minus_five_hundredths, 2).to_text(rt.alloc()) else {
+        panic!(rt; "no memory");
+    };
+    assert_eq!(rt; text.as_str(), "-0.05");
+    let Ok(text_of_zero) = Number::new(zero, 1).to_text(rt.alloc()) else {
+        panic!(rt; "no memory");
+    };
+    assert_eq!(rt; text_of_zero.as_str(), "0.0");
+}
+
 fn text_of<E: Error>(alloc: Global, error: &E) -> Option<String> {
     format!(in alloc; "{error}").ok()
 }
@@ -56,4 +123,14 @@ fn out_of_memory_shows_its_name(rt: HostRuntime) {
         panic!(rt; "no memory");
     };
     assert_eq!(rt; text.as_str(), "OutOfMemory");
+}
+
+#[test]
+fn literals_are_parsed(rt: HostRuntime) {
+    let Ok(number) = Number::parse("1.50") else {
+        panic!(rt; "1.50 is a number");
+    };
+    assert_eq!(rt; number.fraction_digits(), 2);
+    assert!(rt; Decimal::parse("1.5") == Ok(number.decimal()));
+    assert!(rt; Decimal::parse("-0.0") == Decimal::parse("0"));
 }

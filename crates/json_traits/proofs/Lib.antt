@@ -1,3 +1,7 @@
 mod BitLaws
 mod ByteLaws
 mod ListLaws
+pub mod GivesLaws
+pub mod ValueLaws
+pub mod AllowedLaws
+mod WeightLaws

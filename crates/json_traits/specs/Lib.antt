@@ -3,3 +3,7 @@ pub mod Weights
 pub mod Sets
 pub mod Iteration
 pub mod Shown
+pub mod Numbers
+pub mod Gives
+pub mod Kinds
+pub mod Allowed

@@ -1,23 +1,45 @@
-//! The seven types of JSON Schema, and finite sets of them.
+//! What code over JSON asks of a value, whatever holds it, and the seven types of JSON Schema.
+//!
+//! A [`Node`] is a JSON value that is read in place: a value in memory, or one in the bytes of a column. [`Object`], [`Array`] and
+//! [`JsonNumber`] are its members, its elements and its number. [`HasTree`] is the JSON tree that each of them stands for, of which
+//! all contracts speak. So code that is written once over `Node` runs on every kind of node, and is proved once. A number
+//! writes `to_number` alone: its other calls answer from that. [`Json`] is a representation: its nodes, its prepared keys, and
+//! the buffers of its string nodes.
 //!
 //! The keyword `type` of a schema names one type, or several in an array. [`types::JsonType`] is a type, with its name;
-//! [`types::JsonTypeSet`] is a set of types, in one byte; and [`types::number_is_integer`] answers which numbers are
-//! integers: those whose value is whole, however they are written.
+//! [`types::JsonTypeSet`] is a set of types, in one byte, which also says whether it allows a value.
 //!
 //! ```text
 //! let allowed = JsonType::String | JsonType::Number;
 //! allowed.contains(JsonType::Number);        // true
+//! allowed.contains_value_type(&node);        // true of each string and each number
 //! allowed.remove(JsonType::String).len();    // 1
 //! format!(in alloc; "{allowed:?}")?;         // (number, string)
-//! "integer".parse::<JsonType>();             // Ok(JsonType::Integer)
-//! "int".parse::<JsonType>();                 // Err(())
+//! "int".parse::<JsonType>();                 // Err(()); `integer` is read
+//! JsonType::from(&Value::Null);              // Null
 //! ```
 //!
 //! The source is JSON Schema 2020-12, validation, section 6.1.1. A set holds exactly the types that are put in: `Integer`
 //! is not held where `Number` alone is. The order of the types is this project's own: `null`, `boolean`, `integer`,
-//! `number`, `string`, `array`, `object`. No call takes memory.
+//! `number`, `string`, `array`, `object`. Only `JsonNumber::as_str`, `Json::prepare_key` and `Json::string_node`
+//! take memory.
 #![tactic(auto)]
 
+mod array;
+mod has_name;
+mod has_tree;
+mod json;
+mod json_number;
+mod node;
+mod object;
 #[cfg(test)]
 mod tests;
 pub mod types;
+
+pub use array::Array;
+pub use has_name::HasName;
+pub use has_tree::HasTree;
+pub use json::Json;
+pub use json_number::JsonNumber;
+pub use node::Node;
+pub use object::Object;

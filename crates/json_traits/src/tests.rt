@@ -1,5 +1,7 @@
+use crate::json_number::JsonNumber;
 use crate::types::{JsonType, JsonTypeSet, number_is_integer};
-use json_exact::{Decimal, Number};
+use json_exact::{Decimal, Number, Value};
+use std::alloc::Global;
 
 const NAMES: [(&str, JsonType); 7] = [
     ("null", JsonType::Null),
@@ -85,4 +87,50 @@ fn one_point_zero_is_an_integer(rt: HostRuntime) {
         panic!(rt; "1 is narrow");
     };
     assert!(rt; number_is_integer(&Number::new(one, 1)));
+}
+
+fn whole_values<N: JsonNumber>(number: &N) -> (Option<u64>, Option<i64>) {
+    (number.as_u64(), number.as_i64())
+}
+
+fn integer_answers<N: JsonNumber>(number: &N) -> (bool, bool) {
+    (number.is_integer(), number.is_written_as_integer())
+}
+
+fn is_written<N: JsonNumber>(alloc: Global, number: &N, expected: &str) -> bool {
+    match number.as_str(alloc) {
+        Ok(text) => text.as_str() == expected,
+        Err(_) => false,
+    }
+}
+
+fn fraction_digits<N: JsonNumber>(number: &N) -> u16 {
+    number.to_number().fraction_digits()
+}
+
+#[test]
+fn numbers_answer_through_their_trait(rt: HostRuntime) {
+    let one_point_zero = Number::new(Decimal::from_u64(1), 1);
+    let minus_one = Number::new(Decimal::from_i64(-1), 0);
+    let hundred = Number::new(Decimal::from_u64(100), 0);
+    assert!(rt; whole_values(&one_point_zero) == (Some(1), Some(1)));
+    assert!(rt; whole_values(&minus_one) == (None, Some(-1)));
+    assert!(rt; integer_answers(&one_point_zero) == (true, false));
+    assert!(rt; integer_answers(&hundred) == (true, true));
+    assert_eq!(rt; fraction_digits(&one_point_zero), 1);
+}
+
+#[test]
+fn numbers_are_written_through_their_trait(rt: HostRuntime) {
+    let Some(one_and_a_half) = Decimal::from_groups(false, 0, &[1, 0, 0x88, 0x13]) else {
+        panic!(rt; "1.5 is narrow");
+    };
+    let number = Number::new(one_and_a_half, 2);
+    assert!(rt; is_written(rt.alloc(), &number, "1.50"));
+    assert!(rt; whole_values(&number) == (None, None));
+}
+
+#[test]
+fn values_have_types(rt: HostRuntime) {
+    assert!(rt; JsonType::from(&Value::Null) == JsonType::Null);
 }

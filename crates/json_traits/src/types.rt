@@ -2,7 +2,9 @@
 
 mod iter;
 mod json_type;
+pub mod laws;
 mod set;
+mod value_type;
 mod whole;
 
 pub use iter::JsonTypeSetIterator;

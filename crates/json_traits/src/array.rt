@@ -1,0 +1,26 @@
+//! `Array`: the elements of an array, whatever holds it.
+
+ghost use Rattle.std.specs.Prelude.{◌≡◌, length};
+ghost use Rattle.std.specs.Iterator.{IsFinite};
+ghost use Rattle.json_model.specs.Parts.{elements_of};
+ghost use Rattle.json_traits.specs.Gives.{Gives};
+
+use crate::has_tree::HasTree;
+
+/// A JSON array: its elements in order. No call takes memory.
+pub trait Array<'a>: Copy + HasTree {
+    /// What stands for an element.
+    type Node: Copy + HasTree;
+    /// The iterator over the elements.
+    type ElementsIter: Iterator<Item = Self::Node> + Drop;
+
+    /// How many elements there are.
+    fn len(&self) -> usize
+        ensures { result ≡ length (elements_of (Self.tree self.now)) };
+
+    /// The elements, in order, and then the end.
+    fn elements(&self) -> Self::ElementsIter
+        ensures can { Self.ElementsIter.can_next result }
+        ensures ends { IsFinite (Self.ElementsIter.remaining result) }
+        ensures gives { Gives Self.ElementsIter.next_gives Self.Node.tree result (elements_of (Self.tree self.now)) };
+}

@@ -1,0 +1,61 @@
+//! `Node`: a JSON value, whatever holds it.
+
+ghost use Rattle.std.specs.Prelude.{◌≡◌, length, option_map};
+ghost use Rattle.json_model.specs.Parts.{as_string, as_boolean, is_null, is_number, is_string, if_object, if_array, if_number, points};
+ghost use Rattle.json_traits.specs.Kinds.{type_of};
+
+use crate::array::Array;
+use crate::has_tree::HasTree;
+use crate::json_number::JsonNumber;
+use crate::object::Object;
+use crate::types::JsonType;
+
+/// A JSON value that is read in place. Each call answers from the tree that the node stands for, and takes no memory.
+pub trait Node<'a>: Copy + HasTree {
+    /// What stands for an object.
+    type Object: Object<'a, Node = Self>;
+    /// What stands for an array.
+    type Array: Array<'a, Node = Self>;
+    /// What stands for a number.
+    type Number: JsonNumber;
+
+    /// The object that the value is, if it is one.
+    fn as_object(&self) -> Option<Self::Object>
+        ensures { option_map Self.Object.tree result ≡ if_object (Self.tree self.now) };
+
+    /// The array that the value is, if it is one.
+    fn as_array(&self) -> Option<Self::Array>
+        ensures { option_map Self.Array.tree result ≡ if_array (Self.tree self.now) };
+
+    /// The number that the value is, if it is one.
+    fn as_number(&self) -> Option<Self::Number>
+        ensures { option_map Self.Number.tree result ≡ if_number (Self.tree self.now) };
+
+    /// The text of the string that the value is, if it is one.
+    fn as_string(&self) -> Option<&'a str>
+        ensures { option_map (λ s. s.now) result ≡ as_string (Self.tree self.now) };
+
+    /// The truth value that the value is, if it is one.
+    fn as_boolean(&self) -> Option<bool>
+        ensures { result ≡ as_boolean (Self.tree self.now) };
+
+    /// Whether the value is null.
+    fn is_null(&self) -> bool
+        ensures { result ≡ is_null (Self.tree self.now) };
+
+    /// Whether the value is a number.
+    fn is_number(&self) -> bool
+        ensures { result ≡ is_number (Self.tree self.now) };
+
+    /// Whether the value is a string.
+    fn is_string(&self) -> bool
+        ensures { result ≡ is_string (Self.tree self.now) };
+
+    /// The type of the value: `Number` for each number, whole or not.
+    fn json_type(&self) -> JsonType
+        ensures { result ≡ type_of (Self.tree self.now) };
+
+    /// How many code points the string has that the value is, if it is one.
+    fn string_length(&self) -> Option<u64>
+        ensures { result ≡ option_map (λ s. length (points s)) (as_string (Self.tree self.now)) };
+}

@@ -1,0 +1,5 @@
+pub mod PlaceLaws
+pub mod NestLaws
+pub mod ValueLaws
+pub mod TextLaws
+pub mod EquivalenceLaws

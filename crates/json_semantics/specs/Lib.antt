@@ -1,0 +1,4 @@
+pub mod Trees
+pub mod Iteration
+pub mod BoundCodes
+pub mod Bounds

@@ -14,3 +14,7 @@ pub mod HexTexts
 pub mod OneRead
 pub mod Nestings
 pub mod Slices
+pub mod TypeLaws
+pub mod CursorLaws
+pub mod RiseLaws
+pub mod LookupLaws

@@ -1,10 +1,14 @@
 -- Walking over the members of an object.
 use Rattle.std.proofs.Common.{◌≡◌, ℕ, zero, suc, ◌+◌, ◌-◌, ◌<◌, ◌≤◌, Bool, true, eqb, List, [], ◌∷◌, length, map, Option, Some, None, refl, sym, ap, subst, ◌∙◌, arith}
-use Rattle.std.specs.Prelude.{option_map, ◌&&◌, not, ◌||◌, false}
+use Rattle.std.specs.Prelude.{IsTrue, ◌↔◌, option_map, ◌&&◌, not, ◌||◌, false}
+use Rattle.std.proofs.lemmas.Bool.{eqb-true}
 use Rattle.std.specs.Str.{is_utf8}
+use Rattle.std.specs.Iterator.{YieldsFirstBy}
 use Rattle.json_model.specs.Keys.{rises}
 use Rattle.json_model.specs.Parts.{pairs_in, pairs_of, trees_in, elements_of, if_object, if_array}
 use Rattle.json_model.specs.Tree.{Tree, array, object, Elements, no_elements, element, Members}
+use Rattle.json_traits.specs.Gives.{Gives}
+use Rattle.json_traits.proofs.GivesLaws.{gives_rest}
 use Rattle.jsonb_layout.specs.Layout.{Item, Form, list, pairs, lone}
 use Rattle.jsonb_layout.specs.Reading.{◌>>=◌, only_if, Place, item_at, follows, keys_at, opened, ended}
 use Rattle.jsonb_layout.specs.Trees.{elements_by, members, held_by, read, item_tree}
@@ -15,7 +19,9 @@ use Rattle.jsonb_layout.proofs.Tools.{guard, bind_some, some_is}
 use Rattle.jsonb_layout.proofs.Unrolled.{read_unroll}
 use Rattle.jsonb.specs.Found.{both, text_found, tree_found, members_found}
 use Rattle.jsonb.specs.Values.{or_null, is_clean, IsJsonTree, array_at, object_at, names_at, members_at, AreJsonMembers, or_no_pairs, pairs_at, skip}
+use Rattle.jsonb.specs.Nodes.{members_left, member_pair}
 use Rattle.jsonb.specs.declared.found.Found.{Found}
+use Rattle.jsonb.specs.declared.members.JsonbMembers.{JsonbMembers}
 use Rattle.jsonb.proofs.KindLaws.{text_clean}
 
 abbrev some : Tree → Option Tree
@@ -167,7 +173,7 @@ names_of_pairs (k ∷ ks) no_elements e = absurd cc
 names_of_pairs (k ∷ ks) (element t ts) e = ap (λ (l : List (List ℕ)). k ∷ l) (names_of_pairs ks ts (omega arith))
 
 module _ (c : ℕ) (p : Place) (json : IsJsonTree (object_at c p)) where
-  pairs_are : pairs_of (or_null (object_at c p)) ≡ pairs_in (members (holds c p json).names (holds c p json).trees)
+  pub pairs_are : pairs_of (or_null (object_at c p)) ≡ pairs_in (members (holds c p json).names (holds c p json).trees)
   pairs_are = ap (λ (r : Option Tree). pairs_of (or_null r)) (holds c p json).tree
 
   pub object_length : c ≡ length (pairs_of (or_null (object_at c p)))
@@ -182,7 +188,7 @@ module _ (c : ℕ) (p : Place) (json : IsJsonTree (object_at c p)) where
 
 -- ---- keys that are read are names, and end where so many items end
 
-keys_names : (n : ℕ) (before : Option (List ℕ)) (p : Place) (r : List (List ℕ) × Place) → keys_at n before p ≡ Some r → (names_at n p ≡ Some r) × (skip n p ≡ Some r.1)
+pub keys_names : (n : ℕ) (before : Option (List ℕ)) (p : Place) (r : List (List ℕ) × Place) → keys_at n before p ≡ Some r → (names_at n p ≡ Some r) × (skip n p ≡ Some r.1)
 unfolding keys_at names_at skip
 keys_names zero before p r e = (e, ap (option_map (λ (y : List (List ℕ) × Place). y.1)) e)
 keys_names (suc n) before p r e =
@@ -194,6 +200,16 @@ keys_names (suc n) before p r e =
   where
     put : (n : ℕ) (p : Place) (r : List (List ℕ) × Place) (x : Item) (q : Place) (ks : List (List ℕ) × Place) → item_at p ≡ Some (x, q) → names_at n q ≡ Some ks → skip n q ≡ Some ks.1 → ◌≡◌ {A = Option (List (List ℕ) × Place)} (Some (x.piece ∷ ks.0, ks.1)) (Some r) → (names_at (suc n) p ≡ Some r) × (skip (suc n) p ≡ Some r.1)
     put n p r x q ks e f g h = (rw (e, f) h, rw (e, g) (ap (option_map (λ (y : List (List ℕ) × Place). y.1)) h))
+
+-- no members are none
+pub empty_if : (c : ℕ) (p : Place) → IsJsonTree (object_at c p) → IsTrue (eqb c 0) ↔ (pairs_of (or_null (object_at c p)) ≡ [])
+empty_if c p json = go c (pairs_of (or_null (object_at c p))) (object_length c p json)
+  where
+    go : (n : ℕ) (ps : List (List ℕ × Tree)) → n ≡ length ps → IsTrue (eqb n 0) ↔ (ps ≡ [])
+    go zero [] e = (λ h. refl, λ h. refl)
+    go zero (p ∷ ps) e = absurd cc
+    go (suc n) [] e = absurd cc
+    go (suc n) (p ∷ ps) e = (λ h. absurd (omega (arith, eqb-true (suc n) 0 h)), λ h. absurd cc)
 
 module _ (c : ℕ) (p : Place) (json : IsJsonTree (object_at c p)) where
   pub passes : None ≡ skip c p → ⊥
@@ -224,7 +240,7 @@ module _ (c : ℕ) (p : Place) (json : IsJsonTree (object_at c p)) where
 
 -- ---- the next member
 
-both_clean : (f g : Found) → is_clean (both f g) ≡ true → (is_clean f ≡ true) × (is_clean g ≡ true)
+pub both_clean : (f g : Found) → is_clean (both f g) ≡ true → (is_clean f ≡ true) × (is_clean g ≡ true)
 both_clean f g h = go f.not_text f.wide g.not_text g.wide h
   where
     go : (a b c d : Bool) → (not (a || c) && not (b || d)) ≡ true → ((not a && not b) ≡ true) × ((not c && not d) ≡ true)
@@ -235,7 +251,7 @@ both_clean f g h = go f.not_text f.wide g.not_text g.wide h
     go false true true d h = absurd cc
     go true b c d h = absurd cc
 
-less_one : (n : ℕ) → 0 < n → suc (n - 1) ≡ n
+pub less_one : (n : ℕ) → 0 < n → suc (n - 1) ≡ n
 less_one n h = omega arith
 
 pub record NextMember (n : ℕ) (p q : Place) (x y : Item) (p' q' : Place) : Type 0 where
@@ -252,11 +268,11 @@ names_some : (n : ℕ) (p p' : Place) (x : Item) → item_at p ≡ Some (x, p') 
 unfolding names_at
 names_some n p p' x e = rw e refl
 
-values_none : (n : ℕ) (q : Place) → item_at q ≡ None → elements_by read (suc n) q ≡ None
+pub values_none : (n : ℕ) (q : Place) → item_at q ≡ None → elements_by read (suc n) q ≡ None
 unfolding elements_by
 values_none n q e = rw e refl
 
-values_some : (n : ℕ) (q q' : Place) (y : Item) → item_at q ≡ Some (y, q') → elements_by read (suc n) q ≡ (item_tree q.at y >>= λ t. elements_by read n q' >>= λ ts. Some (element t ts.0, ts.1))
+pub values_some : (n : ℕ) (q q' : Place) (y : Item) → item_at q ≡ Some (y, q') → elements_by read (suc n) q ≡ (item_tree q.at y >>= λ t. elements_by read n q' >>= λ ts. Some (element t ts.0, ts.1))
 unfolding elements_by
 values_some n q q' y e = rw e refl
 
@@ -324,3 +340,7 @@ module _ (n : ℕ) (p q : Place) (some_left : 0 < n) (json : AreJsonMembers (mem
 pub no_pairs : (n : ℕ) (p q : Place) → n ≡ 0 → pairs_at n p q ≡ []
 unfolding names_at elements_by
 no_pairs n p q e = ap (λ (k : ℕ). pairs_at k p q) e
+
+-- the members that are left are what the iterator gives
+pub members_given : (m : JsonbMembers) (ps : List (List ℕ × Tree)) → members_left m ≡ ps → Gives (YieldsFirstBy member_pair members_left) member_pair m ps
+members_given m ps e = subst (λ (qs : List (List ℕ × Tree)). Gives (YieldsFirstBy member_pair members_left) member_pair m qs) e (gives_rest member_pair members_left m)

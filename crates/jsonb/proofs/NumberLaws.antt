@@ -8,7 +8,6 @@ use Rattle.std.proofs.lemmas.Bool.{ltb-true}
 use Rattle.std.proofs.lemmas.Int.{to_z-of_z}
 use Rattle.json_model.specs.Decimal.{Decimal, HasNarrowDigits, IsNarrow}
 use Rattle.json_model.specs.Tree.{number, scalar}
-use Rattle.json_model.specs.Parts.{as_number}
 use Rattle.json_exact.specs.Digits.{joined as joined_in}
 use Rattle.json_exact.specs.Exact.{parts, signed, IsWorth}
 use Rattle.json_exact.specs.Groups.{groups_of as exact_groups, lifted, AreGroups, AreWorth}
@@ -174,7 +173,7 @@ pub exact : (h : Header) (weight : ℤ) (b : List ℕ) (d : Decimal) (x : ℤ) �
 exact h weight b d x s e = (nat_abs d.digits, ap nat_abs e ∙ abs_signed h.minus (parts_in d) ∙ ap (λ (f : ℕ). nat_abs d.digits * 10 ^ (16383 - f)) s.places)
 
 -- what is worth as much, with as many fraction digits, is the number
-pub number_is : (p : List ℕ) (h : Header) (weight : ℤ) (b : List ℕ) (d : Decimal) (x : ℤ) (w : Decimal) → IsNumber p d → Says h weight b d → x ≡ signed h.minus (parts_in d) → w.places ≡ h.dscale → IsWorth x w → as_number (or_null (tree_at kinds.Number p)) ≡ Some w
+pub number_is : (p : List ℕ) (h : Header) (weight : ℤ) (b : List ℕ) (d : Decimal) (x : ℤ) (w : Decimal) → IsNumber p d → Says h weight b d → x ≡ signed h.minus (parts_in d) → w.places ≡ h.dscale → IsWorth x w → or_null (tree_at kinds.Number p) ≡ scalar (number w)
 number_is p h weight b d x w n s e places worth =
     let same : d ≡ w = one_record x d w (subst (λ (y : ℤ). IsWorth y d) (sym e) (is_worth h.minus d s.sign (omega (arith, s.places, s.few)))) worth (s.places ∙ sym places) in
-    ap (λ (r : Option Decimal). as_number (or_null (r >>= λ d. Some (scalar (number d))))) n.reads ∙ ap (λ (d : Decimal). Some d) same
+    ap (λ (r : Option Decimal). or_null (r >>= λ d. Some (scalar (number d)))) n.reads ∙ ap (λ (d : Decimal). scalar (number d)) same

@@ -13,7 +13,7 @@ use Rattle.jsonb.specs.declared.frame.Frame.{Frame}
 use Rattle.jsonb.specs.declared.error.JsonbError.{JsonbError}
 use Rattle.jsonb.specs.declared.error.JsonbError.TheVariants as errors
 use Rattle.jsonb.specs.Found.{nothing, both, tree_found}
-use Rattle.jsonb.specs.Frames.{combine, container_found, rest_found, frame_found, frames_found, next_found, HoldsScalars, frames_weight, next_weight, IsInside, SuspendCause, StaysFlat, Steps, StepCause, Searched}
+use Rattle.jsonb.specs.Frames.{combine, container_found, rest_found, frame_found, frames_found, next_found, HoldsScalars, frames_weight, next_weight, IsInside, SuspendCause, StaysFlat, Moves, StepCause, Searched}
 use Rattle.jsonb.specs.Views.{place}
 use Rattle.jsonb.proofs.FoundLaws.{combine_none, combine_assoc, combine_nothing, nothing_combine, combine_some}
 use Rattle.jsonb.proofs.FrameLaws.{at_end, rest_none, rest_some, stays_flat, no_inside, put_off}
@@ -24,7 +24,7 @@ module _ (frame : Frame) (old new : List Frame) (none : frame.left ≡ 0) (over 
   ended_frame : frame_found frame ≡ Some nothing
   ended_frame = at_end frame.left (place frame.position) none over
 
-  popped_from : (next : Option Frame) → frames_found old ≡ combine (next_found next) (frames_found new) → next_weight next + frames_weight new ≡ frames_weight old → (next ≡ None → new ≡ []) → StaysFlat frame old new next → Steps frame old new nothing next
+  popped_from : (next : Option Frame) → frames_found old ≡ combine (next_found next) (frames_found new) → next_weight next + frames_weight new ≡ frames_weight old → (next ≡ None → new ≡ []) → StaysFlat frame old new next → Moves frame old new nothing next
   popped_from next e w last flat = record {
     so_far = ap (λ (a : Option Found). combine a (frames_found old)) ended_frame ∙ ap (combine (Some nothing)) e;
     smaller = omega (arith, w);
@@ -32,7 +32,7 @@ module _ (frame : Frame) (old new : List Frame) (none : frame.left ≡ 0) (over 
     flat = flat;
   }
 
-  pub popped : (next : Option Frame) (len after : ℕ) → old ≡ new ++ option_to_list next → new ≡ take (len - 1) old → MatchOption next ((len ≡ 0) × (after ≡ 0)) (λ _. after + 1 ≡ len) → Steps frame old new nothing next
+  pub popped : (next : Option Frame) (len after : ℕ) → old ≡ new ++ option_to_list next → new ≡ take (len - 1) old → MatchOption next ((len ≡ 0) × (after ≡ 0)) (λ _. after + 1 ≡ len) → Moves frame old new nothing next
   popped None len after e rest cases =
       let gone : new ≡ [] = rest ∙ ap (λ (k : ℕ). take (k - 1) old) cases.0 in
       let same : old ≡ new = e ∙ append-nil new in
@@ -60,7 +60,7 @@ module _ (frame : Frame) (x : Item) (q : Place) (some : frame.left ≡ 0 → ⊥
         ∙ ap (λ (a : Option Found). combine a (rest_found (frame.left - 1) q)) is
         ∙ combine_assoc (Some f) (next_found inner) (rest_found (frame.left - 1) q)
 
-    pub took_scalar : (old : List Frame) (rest : Frame) → rest.left ≡ frame.left - 1 → place rest.position ≡ q → inner ≡ None → Steps frame old old f (Some rest)
+    pub took_scalar : (old : List Frame) (rest : Frame) → rest.left ≡ frame.left - 1 → place rest.position ≡ q → inner ≡ None → Moves frame old old f (Some rest)
     took_scalar old rest left at none =
         let rest_is : rest_found (frame.left - 1) q ≡ frame_found rest = ap (λ (n : ℕ). rest_found n q) (sym left) ∙ ap (rest_found rest.left) (sym at) in
         record {
@@ -75,7 +75,7 @@ module _ (frame : Frame) (x : Item) (q : Place) (some : frame.left ≡ 0 → ⊥
           flat = λ g there flat o. (o, λ r h. stays_flat frame.left (place frame.position) q x more reads g there flat r (ap (λ (n : ℕ). elements_by read n q) (sym left) ∙ ap (elements_by read rest.left) (sym at) ∙ h));
         }
 
-    pub took_inside : (old new : List Frame) (i : Frame) → inner ≡ Some i → IsInside (place frame.position).at x → next_weight inner ≤ length x.piece → frames_found new ≡ combine (rest_found (frame.left - 1) q) (frames_found old) → frames_weight new ≤ size q + 1 + frames_weight old → Steps frame old new f (Some i)
+    pub took_inside : (old new : List Frame) (i : Frame) → inner ≡ Some i → IsInside (place frame.position).at x → next_weight inner ≤ length x.piece → frames_found new ≡ combine (rest_found (frame.left - 1) q) (frames_found old) → frames_weight new ≤ size q + 1 + frames_weight old → Moves frame old new f (Some i)
     took_inside old new i is_there inside weight e w = record {
       so_far =
           ap (λ (a : Option Found). combine a (frames_found old)) value_is
@@ -131,7 +131,7 @@ module _ (b : List ℕ) (found : Found) (frame : Frame) (current : Option Frame)
   flat_frame : (t : Tree) → read b ≡ Some t → nest t ≤ 1 → (old ≡ []) × HoldsScalars frame
   flat_frame t is low = let f = s.flat t is low in (f.0, subst (λ (n : Option Frame). IfSome n HoldsScalars) now f.1)
 
-  pub goes_on : (new : List Frame) (f : Found) (next : Option Frame) → Steps frame old new f next → SoFar b (both found f) next new
+  pub goes_on : (new : List Frame) (f : Found) (next : Option Frame) → Moves frame old new f next → SoFar b (both found f) next new
   goes_on new f next step = record {
     so_far =
         combine_assoc (Some found) (Some f) (combine (next_found next) (frames_found new))
@@ -141,7 +141,7 @@ module _ (b : List ℕ) (found : Found) (frame : Frame) (current : Option Frame)
     flat = λ t is low. let o = flat_frame t is low in let g = there t is in step.flat g.0 g.1 o.1 o.0;
   }
 
-  pub goes_down : (new : List Frame) (f : Found) (next : Option Frame) → Steps frame old new f next → next_weight next + frames_weight new < next_weight current + frames_weight old
+  pub goes_down : (new : List Frame) (f : Found) (next : Option Frame) → Moves frame old new f next → next_weight next + frames_weight new < next_weight current + frames_weight old
   goes_down new f next step = omega (arith, step.smaller, ap next_weight now)
 
   pub stops : (e : JsonbError) → StepCause frame e → Searched b (Err e)

@@ -72,7 +72,7 @@ abbrev pub StaysFlat : Frame → List Frame → List Frame → Option Frame → 
 StaysFlat frame old new next = (g : Found) → frame_found frame ≡ Some g → HoldsScalars frame → old ≡ [] → (new ≡ []) × IfSome next HoldsScalars
 
 -- found was found, and next and new are what is left of frame and old
-pub record Steps (frame : Frame) (old new : List Frame) (found : Found) (next : Option Frame) : Type 0 where
+pub record Moves (frame : Frame) (old new : List Frame) (found : Found) (next : Option Frame) : Type 0 where
   pub so_far : combine (frame_found frame) (frames_found old) ≡ combine (Some found) (combine (next_found next) (frames_found new))
   pub smaller : next_weight next + frames_weight new < frame_weight frame + frames_weight old
   pub last : next ≡ None → new ≡ []
@@ -85,9 +85,9 @@ StepCause frame errors.NotText = ⊥
 StepCause frame errors.NumberTooWide = ⊥
 StepCause frame errors.OutOfMemory = (g : Found) → frame_found frame ≡ Some g → HoldsScalars frame → ⊥
 
-abbrev pub StepsTo : Frame → List Frame → List Frame → Result (Found × Option Frame) JsonbError → Type 0
-StepsTo frame old new (Ok r) = Steps frame old new r.0 r.1
-StepsTo frame old new (Err e) = StepCause frame e
+abbrev pub MovesTo : Frame → List Frame → List Frame → Result (Found × Option Frame) JsonbError → Type 0
+MovesTo frame old new (Ok r) = Moves frame old new r.0 r.1
+MovesTo frame old new (Err e) = StepCause frame e
 
 -- of a container
 abbrev pub Searched : List ℕ → Result Found JsonbError → Type 0

@@ -3,8 +3,10 @@ pub mod Views
 pub mod NumberViews
 pub mod Frames
 pub mod Values
+pub mod Lookup
 pub mod Nodes
 pub mod Root
 pub mod Reads
 pub mod HexText
 pub mod Nested
+pub mod Buffers

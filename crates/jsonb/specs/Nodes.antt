@@ -1,11 +1,13 @@
 -- The trees of the nodes.
 use Rattle.std.specs.Prelude.{ℕ, List}
 use Rattle.std.specs.Borrow.{Bor}
+use Rattle.json_model.specs.Parts.{elements_of}
 use Rattle.json_model.specs.Tree.{Tree}
 use Rattle.jsonb.specs.Values.{value_of, or_null, array_at, object_at, pairs_at}
 use Rattle.jsonb.specs.Views.{place}
 use Rattle.jsonb.specs.declared.kind.Kind.TheVariants as kinds
 use Rattle.jsonb.specs.declared.array.JsonbArray.{JsonbArray}
+use Rattle.jsonb.specs.declared.cursor.Cursor.{Cursor}
 use Rattle.jsonb.specs.declared.members.JsonbMembers.{JsonbMembers}
 use Rattle.jsonb.specs.declared.node.JsonbNode.{JsonbNode}
 use Rattle.jsonb.specs.declared.number.JsonbNumber.{JsonbNumber}
@@ -30,3 +32,7 @@ members_left m = pairs_at m.left (place m.keys) (place m.values)
 
 abbrev pub member_pair : Bor (List ℕ) × JsonbNode → List ℕ × Tree
 member_pair p = (p.0.now, node_tree p.1)
+
+-- the elements that are left
+abbrev pub elements_left : Cursor → List Tree
+elements_left c = elements_of (or_null (array_at c.left (place c.position)))

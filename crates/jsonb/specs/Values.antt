@@ -61,7 +61,7 @@ own_of kinds.True at p = p
 own_of kinds.Null at p = p
 own_of kinds.Container at p = drop (pad at) p
 
--- a piece of a kind is as long as its padding
+-- a piece of a kind is at least as long as its padding
 abbrev pub HasPad : Kind → ℕ → List ℕ → Type 0
 HasPad kinds.String at p = Unit {0}
 HasPad kinds.Number at p = pad at ≤ length p

@@ -4,8 +4,11 @@ ghost use Rattle.std.specs.Prelude.{◌+◌, ◌<◌, ◌^◌, length};
 ghost use Rattle.jsonb.specs.Values.{array_at, IsJsonTree};
 ghost use Rattle.jsonb.specs.Views.{place};
 
+use crate::cursor::Cursor;
+use crate::node::JsonbNode;
 use crate::opening::{Shape, open};
 use crate::position::Position;
+use json_traits::{Array, HasTree};
 
 /// An array in a slice: how many elements it has, and where they begin. It borrows the slice.
 #[derive(Clone, Copy)]
@@ -18,10 +21,8 @@ pub struct JsonbArray<'a> {
 }
 
 impl<'a> JsonbArray<'a> {
-    ghost use Rattle.std.specs.Prelude.{◌≡◌};
-    ghost use Rattle.json_model.specs.Parts.{elements_of};
+    ghost use Rattle.std.specs.Prelude.{◌≡◌, option_map};
     ghost use Rattle.jsonb.specs.Nodes.{array_tree};
-    ghost use Rattle.std.specs.Prelude.{option_map};
     ghost use Rattle.json_model.specs.Parts.{if_array};
     ghost use Rattle.jsonb_layout.specs.Trees.{read};
     ghost use Rattle.jsonb.specs.Values.{or_null};
@@ -47,12 +48,28 @@ impl<'a> JsonbArray<'a> {
             Shape::Scalar => unreachable!(),
         }
     }
+}
 
-    /// The number of elements.
-    #[tactic(auto, using(crate::proofs::MemberLaws::array_length))]
-    pub fn len(&self) -> usize
-        ensures { result ≡ length (elements_of (array_tree self.now)) }
-    {
+impl HasTree for JsonbArray<'_> {
+    ghost use Rattle.jsonb.specs.Nodes.{array_tree};
+
+    ghost tree = { array_tree };
+}
+
+#[tactic(auto, using(crate::proofs::MemberLaws::array_length))]
+impl<'a> Array<'a> for JsonbArray<'a> {
+    type Node = JsonbNode<'a>;
+
+    type ElementsIter = Cursor<'a>;
+
+    fn len(&self) -> usize {
         self.count
+    }
+
+    fn elements(&self) -> Cursor<'a> {
+        Cursor {
+            left: self.count,
+            position: self.start,
+        }
     }
 }

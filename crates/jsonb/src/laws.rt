@@ -1,6 +1,7 @@
 //! Laws of the grammar, for all bytes. Each function does nothing: its contract is what it is for.
 
 ghost use Rattle.std.specs.Prelude.{◌≡◌, ◌≤◌, ◌++◌, [], length, take};
+ghost use Rattle.json_model.specs.Rising.{KeysRise};
 ghost use Rattle.json_model.specs.Tree.{Tree};
 ghost use Rattle.jsonb_layout.specs.Stands.{Stands};
 
@@ -25,4 +26,11 @@ pub fn no_less(bytes: &[u8], cut: usize)
 {
     let _length = bytes.len();
     let _cut = cut;
+}
+
+/// In each tree that bytes stand for, the keys of every object rise.
+pub fn keys_rise(bytes: &[u8])
+    ensures { (t : Tree) → Stands bytes.now t → KeysRise t }
+{
+    let _length = bytes.len();
 }

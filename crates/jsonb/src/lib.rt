@@ -1,8 +1,13 @@
 //! Reads JSON in place from the bytes of PostgreSQL's `jsonb`, as they lie in a column.
 //!
 //! [`Jsonb::root`] takes a whole slice, looks at every part of it, and gives the root's [`JsonbNode`], which borrows the
-//! slice and builds no tree. A node answers what it is: an object with its members, an array with its length, a string, a
-//! number with its exact value and written fraction digits, a boolean or null. For example the bytes, in hex,
+//! slice and builds no tree. A node answers what it is by the traits of `json_traits`: `Node` tells the type and gives a
+//! string with its length in code points, a boolean or null, a [`JsonbObject`], a [`JsonbArray`] or a [`JsonbNumber`].
+//! `Object` has its members in key order, by [`JsonbMembers`]; `Array` its elements, by [`Cursor`]; `JsonNumber` its exact
+//! value and written fraction digits. An iterator goes over each entry once, at any depth; `members` passes over the keys
+//! once more, to find the values behind them. The value under a key is found by `get_named`, by `get` with a prepared
+//! [`JsonbKey`], and by [`JsonbObject::get_counted`], which counts the entry words that it reads in [`Steps`]. None of a
+//! node's calls takes memory, but `as_str` of a number. For example the bytes, in hex,
 //!
 //! ```text
 //! 01000050 08000090 20000000 8080 0100
@@ -17,17 +22,24 @@
 //! too. So is a number that no decimal of 38 digits holds, and a text that is not UTF-8; [`JsonbError`] says which. Containers
 //! may nest as deep as a slice is long: the reader takes memory for the nesting alone, and no stack.
 //!
+//! [`Jsonb`] is a representation of JSON too, by the trait `Json`: a [`JsonbBuffer`] holds the string of a node that is made from a
+//! text, and `prepare_key` and `string_node` take memory for a copy.
+//!
 //! [`encode`] makes bytes, and reads the bytes of hex text. [`laws`] says what holds of the grammar for all bytes.
 #![tactic(auto)]
 
 mod array;
+mod buffer;
+mod cursor;
 pub mod encode;
 mod error;
 mod found;
 mod frame;
+mod key;
 mod keys;
 mod kind;
 pub mod laws;
+mod lookup;
 mod members;
 mod node;
 mod number;
@@ -40,11 +52,16 @@ mod position;
 mod root;
 mod scalar;
 mod search;
+mod steps;
 
 pub use array::JsonbArray;
+pub use buffer::JsonbBuffer;
+pub use cursor::Cursor;
 pub use error::JsonbError;
+pub use key::JsonbKey;
 pub use members::JsonbMembers;
 pub use node::JsonbNode;
 pub use number::JsonbNumber;
 pub use object::JsonbObject;
 pub use root::Jsonb;
+pub use steps::Steps;

@@ -6,6 +6,7 @@ ghost use Rattle.jsonb.specs.declared.kind.Kind.TheVariants as kinds;
 
 use crate::numeric::{header, varlena};
 use json_exact::{Decimal, Number};
+use json_traits::{HasTree, JsonNumber};
 
 /// A number in a slice: the bytes of its varlena. It borrows the slice.
 #[derive(Clone, Copy)]
@@ -15,16 +16,17 @@ pub struct JsonbNumber<'a> {
     ghost short: { length bytes.now < 2 ^ 28 },
 }
 
-impl JsonbNumber<'_> {
-    ghost use Rattle.json_model.specs.Parts.{as_number};
+impl HasTree for JsonbNumber<'_> {
     ghost use Rattle.jsonb.specs.Nodes.{number_tree};
 
+    ghost tree = { number_tree };
+}
+
+impl JsonNumber for JsonbNumber<'_> {
     /// The exact value, with the fraction digits that are written: 1.50 has two, and 1.5 has one.
     ///
     /// It looks at each group once, takes no memory and validates nothing again.
-    pub fn to_number(&self) -> Number
-        ensures { as_number (number_tree self.now) ≡ Some result }
-    {
+    fn to_number(&self) -> Number {
         let Some(body) = varlena(self.bytes) else {
             unreachable!()
         };

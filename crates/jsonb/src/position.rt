@@ -4,6 +4,9 @@ ghost use Rattle.std.specs.Prelude.{◌≡◌, ◌+◌, ◌<◌, ◌^◌, ◌≤
 ghost use Rattle.jsonb_layout.specs.Reading.{Place, length_of, item_at};
 ghost use Rattle.jsonb.specs.Views.{place, step};
 
+use crate::steps::Steps;
+use std::sync::ledger::Ledger;
+
 /// An item: the kind of its entry word, and its piece of the payload.
 #[derive(Clone, Copy)]
 pub struct Entry<'a> {
@@ -69,4 +72,21 @@ pub fn next_item(position: Position<'_>) -> Option<(Entry<'_>, Position<'_>)>
         rest,
     };
     Some((Entry { kind, piece }, after))
+}
+
+/// The item at a position, and a step for its entry word. A look-up by key reads entry words by this call alone.
+pub fn next_item_counted<'a, L: Ledger>(
+    position: Position<'a>,
+    steps: &mut Steps<L>,
+) -> Option<(Entry<'a>, Position<'a>)>
+    requires index { position.index < 2 ^ 60 }
+    requires at { position.at + length position.rest.now < 2 ^ 60 }
+    ensures read { option_map step result ≡ item_at (place position.entry) }
+    ensures piece { IfSome result (λ r. length r.0.piece.now ≤ length position.entry.rest.now) }
+    ensures index { IfSome result (λ r. r.1.index ≡ position.entry.index + 1) }
+    ensures at { IfSome result (λ r. r.1.at + length r.1.rest.now ≡ position.entry.at + length position.entry.rest.now) }
+    ensures steps { steps.new ≡ steps.old + 1 }
+{
+    steps.tick();
+    next_item(position)
 }

@@ -1,16 +1,20 @@
 //! The reader of a whole slice.
 
-ghost use Rattle.std.specs.Prelude.{◌≡◌, ◌≤◌, ◌⊎◌, ◌<◌, ◌^◌, length, Err};
+ghost use Rattle.std.specs.Prelude.{◌≡◌, ◌≤◌, ◌⊎◌, ◌<◌, ◌^◌, [], length, Err, IfOk};
 ghost use Rattle.json_model.specs.Nest.{nest};
 ghost use Rattle.json_model.specs.Tree.{Tree};
 ghost use Rattle.jsonb_layout.specs.Stands.{Stands};
 ghost use Rattle.jsonb_layout.specs.Trees.{read};
+ghost use Rattle.jsonb.specs.Buffers.{buffer_bytes};
+ghost use Rattle.jsonb.specs.Lookup.{key_name};
 ghost use Rattle.jsonb.specs.Reads.{Judges, Reads, lone_tree};
 ghost use Rattle.jsonb.specs.Root.{IsRead, read_tree};
 ghost use Rattle.jsonb.specs.Views.{item};
 
+use crate::buffer::JsonbBuffer;
 use crate::error::JsonbError;
 use crate::found::Found;
+use crate::key::JsonbKey;
 use crate::kind::Kind;
 use crate::node::JsonbNode;
 use crate::opening::lone;
@@ -18,6 +22,8 @@ use crate::own::node_at;
 use crate::position::Entry;
 use crate::scalar::scalar;
 use crate::search::search;
+use json_exact::OutOfMemory;
+use json_traits::Json;
 use std::alloc::Global;
 
 /// The `jsonb` representation of JSON.
@@ -79,5 +85,36 @@ impl Jsonb {
             return root_container(alloc, container);
         };
         root_scalar(entry)
+    }
+}
+
+impl<'a> Json<'a> for Jsonb {
+    type Node = JsonbNode<'a>;
+
+    type PreparedKey = JsonbKey;
+
+    type StringBuffer = JsonbBuffer;
+
+    const KEYS_PER_LOOKUP: usize = 0;
+
+    fn prepare_key(alloc: Global, key: &str) -> Result<JsonbKey, OutOfMemory>
+        ensures { IfOk result (λ k. key_name k ≡ key.now) }
+    {
+        Ok(JsonbKey::new(String::from_str(alloc, key)?))
+    }
+
+    fn string_buffer(alloc: Global) -> JsonbBuffer
+        ensures { buffer_bytes result ≡ [] }
+    {
+        JsonbBuffer::new(String::new(alloc))
+    }
+
+    fn string_node(
+        alloc: Global,
+        buffer: &'a mut JsonbBuffer,
+        string: &str,
+    ) -> Result<JsonbNode<'a>, OutOfMemory> {
+        buffer.put(alloc, string)?;
+        Ok(buffer.node())
     }
 }

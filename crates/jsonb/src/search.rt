@@ -10,7 +10,7 @@ ghost use Rattle.json_model.specs.Nest.{nest};
 ghost use Rattle.jsonb_layout.specs.Trees.{read, item_tree};
 ghost use Rattle.jsonb.specs.Found.{tree_found};
 ghost use Rattle.jsonb.specs.Views.{item};
-ghost use Rattle.jsonb.specs.Frames.{combine, container_found, frame_found, frames_found, next_found, HoldsScalars, frame_weight, frames_weight, next_weight, IsInside, SuspendCause, StepsTo, Searched};
+ghost use Rattle.jsonb.specs.Frames.{combine, container_found, frame_found, frames_found, next_found, HoldsScalars, frame_weight, frames_weight, next_weight, IsInside, SuspendCause, MovesTo, Searched};
 
 use crate::error::JsonbError;
 use crate::found::Found;
@@ -103,7 +103,7 @@ fn step<'a>(
     frame: Frame<'a>,
     suspended: &mut Vec<Frame<'a>>,
 ) -> Result<(Found, Option<Frame<'a>>), JsonbError>
-    ensures { StepsTo frame.entry suspended.old.items suspended.new.items result }
+    ensures { MovesTo frame.entry suspended.old.items suspended.new.items result }
 {
     if frame.left == 0 {
         if !frame.position.rest.is_empty() {

@@ -1,7 +1,10 @@
 -- Each answer of `judge` is the right one.
-use Rattle.std.proofs.Common.{◌≡◌, ℕ, List, Bool, Some, None, refl, ap, ◌∙◌, ◌⊎◌, inl, inr}
+use Rattle.std.proofs.Common.{◌≡◌, ◌≤◌, ℕ, List, Bool, Some, None, refl, sym, ap, subst, ◌∙◌, ◌⊎◌, inl, inr}
 use Rattle.std.specs.Prelude.{Result, Ok, Err, ◌↔◌, IsTrue}
+use Rattle.json_model.specs.Nest.{nest}
 use Rattle.json_model.specs.Tree.{Tree}
+use Rattle.jsonb_layout.proofs.Containers.{one_tree}
+use Rattle.jsonb_layout.specs.Stands.{Stands}
 use Rattle.jsonb.specs.Root.{IsRead}
 use Rattle.jsonb.specs.declared.error.JsonbError.{JsonbError}
 use Rattle.jsonb.specs.declared.error.JsonbError.TheVariants as read
@@ -11,6 +14,7 @@ use Rattle.judge.specs.declared.checks.Checks.{Checks}
 use Rattle.judge.specs.declared.errors.JudgeError.{JudgeError}
 use Rattle.judge.specs.declared.errors.JudgeError.TheVariants as judged
 use Rattle.judge.specs.declared.errors.KeywordError.{KeywordError}
+use Rattle.judge.specs.declared.errors.KeywordError.TheVariants as keyword
 
 -- want of memory, or right
 abbrev Answers : List ℕ → List ℕ → Answer → Type 0
@@ -40,11 +44,32 @@ module _ {X : Type 0} (k d : List ℕ) where
         go (inl h) = absurd cc
         go (inr h) = h
 
-    pub keyword_refused : (e : KeywordError) (x : JudgeError) → x ≡ keyword_error e → HasThisFault t e → Answers k d (Err x)
+    pub keyword_refused : (e : KeywordError) (x : JudgeError) → x ≡ keyword_error e → (◌≡◌ {A = Result Checks KeywordError} (Err e) (Err keyword.OutOfMemory)) ⊎ HasThisFault t e → Answers k d (Err x)
     unfolding Right
-    keyword_refused e x is fault = inr (Ok t, reads, (Some e, fault, ap err is))
+    keyword_refused e x is (inl h) = inl (ap err (is ∙ ap keyword_error (err_is e keyword.OutOfMemory h)))
+    keyword_refused e x is (inr fault) = inr (Ok t, reads, (Some e, fault, ap err is))
 
-    module _ (c : Checks) (compiled : IsCompiled t c) where
+    memory_alone : (e : KeywordError) → keyword_error e ≡ judged.OutOfMemory → e ≡ keyword.OutOfMemory
+    memory_alone keyword.NotAnObject h = absurd cc
+    memory_alone (keyword.UnknownKeyword m) h = absurd cc
+    memory_alone (keyword.BadKeyword m) h = absurd cc
+    memory_alone keyword.Unbuilt h = absurd cc
+    memory_alone keyword.OutOfMemory h = refl
+
+    pub keyword_refused_with_memory : (e : KeywordError) (x : JudgeError) → x ≡ keyword_error e → (nest t ≤ 1 → ◌≡◌ {A = Result Checks KeywordError} (Err e) (Err keyword.OutOfMemory) → ⊥) → (u : Tree) → Stands k u → nest u ≤ 1 → ◌≡◌ {A = Answer} (Err x) (Err judged.OutOfMemory) → ⊥
+    keyword_refused_with_memory e x is free u stands le h =
+        let same : t ≡ u = one_tree k t u reads.0 stands in
+        let only : e ≡ keyword.OutOfMemory = memory_alone e (sym is ∙ err_is x judged.OutOfMemory h) in
+        free (subst (λ (v : Tree). nest v ≤ 1) (sym same) le) (ap (λ (y : KeywordError). let r : Result Checks KeywordError = Err y in r) only)
+
+    module _ (c : Checks) (said_so : (◌≡◌ {A = Result Checks KeywordError} (Ok c) (Err keyword.OutOfMemory)) ⊎ IsCompiled t c) where
+      compiled : IsCompiled t c
+      compiled = go said_so
+        where
+          go : (◌≡◌ {A = Result Checks KeywordError} (Ok c) (Err keyword.OutOfMemory)) ⊎ IsCompiled t c → IsCompiled t c
+          go (inl h) = absurd cc
+          go (inr h) = h
+
       pub document_refused : (e : JsonbError) (x : JudgeError) → x ≡ document_error e → Said {X = X} d (Err e) (Err e) → Answers k d (Err x)
       unfolding Right
       document_refused e x is (inl h) = inl (ap err (is ∙ ap document_error (err_is e read.OutOfMemory h)))

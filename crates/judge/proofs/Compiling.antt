@@ -1,13 +1,14 @@
 -- What compiling keeps from member to member.
-use Rattle.std.proofs.Common.{arith, ◌≡◌, ℕ, ◌+◌, ◌<◌, ◌^◌, List, [], ◌∷◌, ◌++◌, length, take, map, Option, Some, Bool, true, false, cond, refl, sym, ap, ◌∙◌, subst}
-use Rattle.std.specs.Prelude.{codes, slice_get, IsSome, IsSomeAnd, ◌↔◌}
+use Rattle.std.proofs.Common.{arith, ◌≡◌, ℕ, zero, suc, ◌+◌, ◌<◌, ◌≤◌, ◌⊎◌, inl, inr, List, [], ◌∷◌, ◌++◌, length, take, map, Option, Some, None, Bool, true, false, cond, refl, sym, ap, ◌∙◌, subst, take_all}
+use Rattle.std.specs.Prelude.{codes, slice_get, IsSome, ◌↔◌, Result, Err}
 use Rattle.std.specs.List.{AllByRecursion}
-use Rattle.std.proofs.lemmas.List.{append-nil, append_assoc, length-append}
+use Rattle.std.proofs.lemmas.Option.{slice_get_past}
 use Rattle.std.proofs.lemmas.Slice.Eq.{bytes_eq-Decides}
-use Rattle.json_model.specs.Tree.{Tree}
-use Rattle.json_model.specs.Parts.{pairs_of, as_object, if_object}
-use Rattle.json_model.proofs.KindLaws.{if_object_is, object_some}
+use Rattle.json_model.specs.Nest.{nest, nest_members}
+use Rattle.json_model.specs.Tree.{Tree, scalar, array, object, Members, no_members, member}
+use Rattle.json_model.specs.Parts.{pairs_of, pairs_in, as_object}
 use Rattle.json_model.specs.Keys.{key_before, rises}
+use Rattle.json_traits.proofs.GivesLaws.{AtItem}
 use Rattle.judge.specs.Names.{keyword_of}
 use Rattle.judge.specs.Passes.{Passes, IsFree, Adds, Took, AddFault, IsFault, IsCompiled, HasThisFault}
 use Rattle.judge.specs.Validity.{IsFair, IsFirst, IsUnknown, IsUnbuilt, IsBad}
@@ -17,28 +18,20 @@ use Rattle.judge.specs.declared.errors.KeywordError.{KeywordError}
 use Rattle.judge.specs.declared.errors.KeywordError.TheVariants.{NotAnObject, UnknownKeyword, BadKeyword, Unbuilt, OutOfMemory}
 use Rattle.judge.specs.declared.keyword.Keyword.{Keyword}
 use Rattle.judge.specs.declared.keyword.Keyword.TheVariants.{«Type», Enum, Const, Minimum, Maximum, ExclusiveMinimum, ExclusiveMaximum, MinLength, MaxLength, MinItems, MaxItems, MinProperties, MaxProperties, UniqueItems, Required, Pattern}
-use Rattle.judge.proofs.Rising.{rises_all, rises_tail, not_before}
+use Rattle.json_model.proofs.KeyOrderLaws.{rises_all, rises_tail, not_before}
 
 abbrev pub Pair : Type 0
 Pair = List ℕ × Tree
 
 -- ---- lists that grow at their end
 
-all_snoc : {X : Type 0} (P : X → Type 0) (xs : List X) (y : X) → AllByRecursion P xs → P y → AllByRecursion P (xs ++ y ∷ [])
+pub all_snoc : {X : Type 0} (P : X → Type 0) (xs : List X) (y : X) → AllByRecursion P xs → P y → AllByRecursion P (xs ++ y ∷ [])
 all_snoc P [] y h p = (p, tt)
 all_snoc P (x ∷ xs) y h p = (h.0, all_snoc P xs y h.1 p)
 
-all_front : {X : Type 0} (P : X → Type 0) (xs : List X) (y : X) → AllByRecursion P (xs ++ y ∷ []) → AllByRecursion P xs × P y
+pub all_front : {X : Type 0} (P : X → Type 0) (xs : List X) (y : X) → AllByRecursion P (xs ++ y ∷ []) → AllByRecursion P xs × P y
 all_front P [] y h = (tt, h.0)
 all_front P (x ∷ xs) y h = let r = all_front P xs y h.1 in ((h.0, r.0), r.1)
-
-take_front : (xs ys : List Pair) → take (length xs) (xs ++ ys) ≡ xs
-take_front [] ys = refl
-take_front (x ∷ xs) ys = ap (λ (l : List Pair). x ∷ l) (take_front xs ys)
-
-get_behind : (xs ys : List Pair) (p : Pair) → slice_get (xs ++ p ∷ ys) (length xs) ≡ Some p
-get_behind [] ys p = refl
-get_behind (x ∷ xs) ys p = get_behind xs ys p
 
 -- ---- a key is no key before it
 
@@ -84,18 +77,24 @@ key_is a w =
     one_name _ a _ Required w _ (bytes_eq-Decides a (codes "required")).0 refl (
     one_name _ a _ Pattern w _ (bytes_eq-Decides a (codes "pattern")).0 refl (λ h. cc))))))))))))))))
 
-behind : (P : List ℕ → Type 0) (xs ys : List Pair) (p : Pair) → AllByRecursion P (map (λ (q : Pair). q.0) (xs ++ p ∷ ys)) → P p.0
-behind P [] ys p h = h.0
-behind P (x ∷ xs) ys p h = behind P xs ys p h.1
+at_place : (P : List ℕ → Type 0) (ps : List Pair) (k : ℕ) (p : Pair) → AllByRecursion P (map (λ (q : Pair). q.0) ps) → slice_get ps k ≡ Some p → P p.0
+at_place P [] k p h e = absurd (let z : None ≡ Some p = sym (slice_get_past [] k (omega arith)) ∙ e in cc)
+at_place P (x ∷ xs) zero p h e = let s : x ≡ p = cc in subst (λ (q : Pair). P q.0) s h.0
+at_place P (x ∷ xs) (suc k) p h e = at_place P xs k p h.1 e
 
--- no key before p has the keyword of p
-new_key : (xs ys : List Pair) (p : Pair) (w : Keyword) → rises (map (λ (q : Pair). q.0) (xs ++ p ∷ ys)) ≡ true → keyword_of p.0 ≡ Some w → AllByRecursion (λ (q : Pair). keyword_of q.0 ≡ Some w → ⊥) xs
-new_key [] ys p w h e = tt
-new_key (x ∷ xs) ys p w h e =
-    let keys = map (λ (q : Pair). q.0) (xs ++ p ∷ ys) in (
-      λ same. not_before x.0 p.0 (behind (λ y. key_before x.0 y ≡ true) xs ys p (rises_all x.0 keys h)) (key_is x.0 w same ∙ sym (key_is p.0 w e)),
-      new_key xs ys p w (rises_tail x.0 keys h) e,
-    )
+-- no key before place k has the keyword of the key there
+new_key : (ps : List Pair) (k : ℕ) (p : Pair) (w : Keyword) → rises (map (λ (q : Pair). q.0) ps) ≡ true → AtItem ps k p → keyword_of p.0 ≡ Some w → AllByRecursion (λ (q : Pair). keyword_of q.0 ≡ Some w → ⊥) (take k ps)
+new_key ps k p w h at e = go ps k h at.here
+  where
+    go : (ps : List Pair) (k : ℕ) → rises (map (λ (q : Pair). q.0) ps) ≡ true → slice_get ps k ≡ Some p → AllByRecursion (λ (q : Pair). keyword_of q.0 ≡ Some w → ⊥) (take k ps)
+    go [] zero h is = tt
+    go [] (suc k) h is = tt
+    go (x ∷ xs) zero h is = tt
+    go (x ∷ xs) (suc k) h is =
+        let keys = map (λ (q : Pair). q.0) xs in (
+          λ same. not_before x.0 p.0 (at_place (λ y. key_before x.0 y ≡ true) xs k p (rises_all x.0 keys h) is) (key_is x.0 w same ∙ sym (key_is p.0 w e)),
+          go xs k (rises_tail x.0 keys h) is,
+        )
 
 -- ---- one member
 
@@ -118,85 +117,72 @@ refused m w p OutOfMemory is f = f
 
 -- ---- all members
 
--- front was taken in, and left is left
-pub record Walked (t : Tree) (checks : Checks) (place : ℕ) (left : List Pair) : Type 0 where
-  pub front : List Pair
-  pub parts : pairs_of t ≡ front ++ left
-  pub place_is : place ≡ length front
-  pub few : length (pairs_of t) < 2 ^ 60
+member_nests : (ms : Members) (k : ℕ) (p : Pair) → slice_get (pairs_in ms) k ≡ Some p → nest p.1 ≤ nest_members ms
+member_nests no_members k p e = absurd (let z : None ≡ Some p = sym (slice_get_past [] k (omega arith)) ∙ e in cc)
+member_nests (member key v ms) zero p e = let s : (key, v) ≡ p = cc in let n : nest v ≡ nest p.1 = ap (λ (q : Pair). nest q.1) s in omega arith
+member_nests (member key v ms) (suc k) p e = let le = member_nests ms k p e in omega arith
+
+-- a member's value nests less deep than the object
+value_nests : (t : Tree) (k : ℕ) (p : Pair) → slice_get (pairs_of t) k ≡ Some p → nest p.1 < nest t
+value_nests (scalar x) k p e = absurd (let z : None ≡ Some p = sym (slice_get_past [] k (omega arith)) ∙ e in cc)
+value_nests (array ts) k p e = absurd (let z : None ≡ Some p = sym (slice_get_past [] k (omega arith)) ∙ e in cc)
+value_nests (object ms) k p e = let le = member_nests ms k p e in omega arith
+
+-- the first k pairs of t were taken in
+pub record Walked (t : Tree) (checks : Checks) (k : ℕ) : Type 0 where
   pub object : IsSome (as_object t)
   pub rise : rises (map (λ (q : Pair). q.0) (pairs_of t)) ≡ true
-  pub fair : AllByRecursion IsFair front
-  pub passes : (d : Tree) → Passes checks d ↔ AllByRecursion (HoldsAt d) front
-  pub free : (w : Keyword) → AllByRecursion (λ (q : Pair). keyword_of q.0 ≡ Some w → ⊥) front → IsFree w checks
+  pub fair : AllByRecursion IsFair (take k (pairs_of t))
+  pub passes : (d : Tree) → Passes checks d ↔ AllByRecursion (HoldsAt d) (take k (pairs_of t))
+  pub free : (w : Keyword) → AllByRecursion (λ (q : Pair). keyword_of q.0 ≡ Some w → ⊥) (take k (pairs_of t)) → IsFree w checks
 
-pub starts : (t : Tree) (checks : Checks) (left : List Pair) → left ≡ pairs_of t → length (pairs_of t) < 2 ^ 60 → IsSome (as_object t) → rises (map (λ (q : Pair). q.0) (pairs_of t)) ≡ true → ((d : Tree) → Passes checks d) → ((w : Keyword) → IsFree w checks) → Walked t checks 0 left
-starts t checks left all few object rise passes free = record {
-  front = [];
-  parts = sym all;
-  place_is = refl;
-  few = few;
-  object = object;
+pub starts : (t : Tree) (checks : Checks) → IsSome (as_object t) → rises (map (λ (q : Pair). q.0) (pairs_of t)) ≡ true → ((d : Tree) → Passes checks d) → ((w : Keyword) → IsFree w checks) → Walked t checks 0
+starts t checks is_object rise passes free = record {
+  object = is_object;
   rise = rise;
   fair = tt;
   passes = λ d. (λ _. tt, λ _. passes d);
   free = λ w _. free w;
 }
 
-pub object_starts : (t u : Tree) (checks : Checks) (left : List Pair) → Some u ≡ if_object t → left ≡ pairs_of u → length (pairs_of u) < 2 ^ 60 → rises (map (λ (q : Pair). q.0) (pairs_of u)) ≡ true → ((d : Tree) → Passes checks d) → ((w : Keyword) → IsFree w checks) → Walked t checks 0 left
-object_starts t u checks left e all few rise passes free =
-    let same : u ≡ t = if_object_is t e in
-    starts t checks left (all ∙ ap pairs_of same) (subst (λ (x : Tree). length (pairs_of x) < 2 ^ 60) same few)
-    (subst IsSome (sym (object_some t e)) refl)
-    (subst (λ (x : Tree). rises (map (λ (q : Pair). q.0) (pairs_of x)) ≡ true) same rise) passes free
-
-module _ (t : Tree) (checks : Checks) (place : ℕ) (left more : List Pair) (p : Pair) (next : left ≡ p ∷ more) (s : Walked t checks place left) where
-  parts_now : pairs_of t ≡ s.front ++ (p ∷ more)
-  parts_now = s.parts ∙ ap (λ (l : List Pair). s.front ++ l) next
-
-  rise_now : rises (map (λ (q : Pair). q.0) (s.front ++ (p ∷ more))) ≡ true
-  rise_now = subst (λ (l : List Pair). rises (map (λ (q : Pair). q.0) l) ≡ true) parts_now s.rise
-
+module _ (t : Tree) (checks : Checks) (k : ℕ) (p : Pair) (at : AtItem (pairs_of t) k p) (s : Walked t checks k) where
   pub free_now : (w : Keyword) → keyword_of p.0 ≡ Some w → IsFree w checks
-  free_now w e = s.free w (new_key s.front more p w rise_now e)
+  free_now w e = s.free w (new_key (pairs_of t) k p w s.rise at e)
 
-  pub fits_now : place + 1 < 2 ^ 64
-  fits_now = omega (arith, s.few, s.place_is, ap length parts_now, length-append s.front (p ∷ more))
-
-  pub goes_on : (new : Checks) → Took checks p new → Walked t new (place + 1) more
+  pub goes_on : (new : Checks) → Took checks p new → Walked t new (k + 1)
   goes_on new took = record {
-    front = s.front ++ p ∷ [];
-    parts = parts_now ∙ sym (append_assoc s.front (p ∷ []) more);
-    place_is = omega (arith, s.place_is, length-append s.front (p ∷ []));
-    few = s.few;
     object = s.object;
     rise = s.rise;
-    fair = all_snoc IsFair s.front p s.fair took.fair;
-    passes = λ d. (
-      λ h. (let q = (took.passes d).0 h in all_snoc (HoldsAt d) s.front p ((s.passes d).0 q.0) q.1),
-      λ h. (let q = all_front (HoldsAt d) s.front p h in (took.passes d).1 ((s.passes d).1 q.0, q.1)),
+    fair = rw at.front (all_snoc IsFair (take k (pairs_of t)) p s.fair took.fair);
+    passes = λ d. rw at.front (
+      λ h. (let q = (took.passes d).0 h in all_snoc (HoldsAt d) (take k (pairs_of t)) p ((s.passes d).0 q.0) q.1),
+      λ h. (let q = all_front (HoldsAt d) (take k (pairs_of t)) p h in (took.passes d).1 ((s.passes d).1 q.0, q.1)),
     );
-    free = λ w h. (let q = all_front (λ (q : Pair). keyword_of q.0 ≡ Some w → ⊥) s.front p h in took.frees w q.1 (s.free w q.0));
+    free = λ w. rw at.front (λ h. let q = all_front (λ (q : Pair). keyword_of q.0 ≡ Some w → ⊥) (take k (pairs_of t)) p h in took.frees w q.1 (s.free w q.0));
   }
 
-  first_here : (P : Pair → Type 0) → P p → IsFirst t (length s.front) P
-  first_here P x = record {
-    object = s.object;
-    before = subst (λ (l : List Pair). AllByRecursion IsFair l) (sym (ap (take (length s.front)) parts_now ∙ take_front s.front (p ∷ more))) s.fair;
-    here = subst (λ (o : Option Pair). IsSomeAnd o P) (sym (ap (λ (l : List Pair). slice_get l (length s.front)) parts_now ∙ get_behind s.front more p)) x;
-  }
+  first_here : (P : Pair → Type 0) → P p → IsFirst t k P
+  first_here P x = record { object = s.object; before = s.fair; here = rw at.here x }
 
-  pub stops : (e : KeywordError) → IsFault place p e → HasThisFault t e
-  stops NotAnObject f = absurd f
-  stops (UnknownKeyword n) f = subst (λ (i : ℕ). IsFirst t i IsUnknown) (sym (f.0 ∙ s.place_is)) (first_here IsUnknown f.1)
-  stops (BadKeyword n) f = subst (λ (i : ℕ). IsFirst t i IsBad) (sym (f.0 ∙ s.place_is)) (first_here IsBad f.1)
-  stops Unbuilt f = (length s.front, first_here IsUnbuilt f)
-  stops OutOfMemory f = f
+  pub stops : (m : ℕ) (e : KeywordError) → m ≡ k → IsFault m p e → (◌≡◌ {A = Result Checks KeywordError} (Err e) (Err OutOfMemory)) ⊎ HasThisFault t e
+  stops m NotAnObject is f = absurd f
+  stops m (UnknownKeyword n) is f = inr (subst (λ (i : ℕ). IsFirst t i IsUnknown) (sym (f.0 ∙ is)) (first_here IsUnknown f.1))
+  stops m (BadKeyword n) is f = inr (subst (λ (i : ℕ). IsFirst t i IsBad) (sym (f.0 ∙ is)) (first_here IsBad f.1))
+  stops m Unbuilt is f = inr (k, first_here IsUnbuilt f)
+  stops m OutOfMemory is f = inl refl
 
-pub ends : (t : Tree) (checks : Checks) (place : ℕ) (left : List Pair) → left ≡ [] → Walked t checks place left → IsCompiled t checks
-ends t checks place left none s =
-    let all : pairs_of t ≡ s.front = s.parts ∙ ap (λ (l : List Pair). s.front ++ l) none ∙ append-nil s.front in
+  -- where no value is a container, memory is never wanting
+  pub stops_with_memory : (m : ℕ) (e : KeywordError) → IsFault m p e → nest t ≤ 1 → ◌≡◌ {A = Result Checks KeywordError} (Err e) (Err OutOfMemory) → ⊥
+  stops_with_memory m NotAnObject f le h = cc
+  stops_with_memory m (UnknownKeyword n) f le h = cc
+  stops_with_memory m (BadKeyword n) f le h = cc
+  stops_with_memory m Unbuilt f le h = cc
+  stops_with_memory m OutOfMemory f le h = let lt = value_nests t k p at.here in omega arith
+
+pub ends : (t : Tree) (checks : Checks) (k : ℕ) → length (pairs_of t) ≤ k → Walked t checks k → IsCompiled t checks
+ends t checks k le s =
+    let all : take k (pairs_of t) ≡ pairs_of t = take_all k (pairs_of t) le in
     record {
-      valid = record { object = s.object; fair = subst (λ (l : List Pair). AllByRecursion IsFair l) (sym all) s.fair };
-      passes = λ d. subst (λ (l : List Pair). Passes checks d ↔ AllByRecursion (HoldsAt d) l) (sym all) (s.passes d);
+      valid = record { object = s.object; fair = subst (λ (l : List Pair). AllByRecursion IsFair l) all s.fair };
+      passes = λ d. subst (λ (l : List Pair). Passes checks d ↔ AllByRecursion (HoldsAt d) l) all (s.passes d);
     }

@@ -1,11 +1,12 @@
 pub mod Answering
+pub mod BoundLaws
 pub mod Compiling
 pub mod Cuts
 pub mod KnownBytes
+pub mod NameLists
 pub mod OneAnswer
 pub mod Pairs
-pub mod Rising
 pub mod Runs
 pub mod Steps
 pub mod Texts
-pub mod TypeLaws
+pub mod TypeLists

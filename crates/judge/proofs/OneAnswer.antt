@@ -1,4 +1,4 @@
--- Each pair of slices has one right answer.
+-- Each pair of slices has at most one right answer.
 use Rattle.std.proofs.Common.{◌≡◌, ℕ, zero, suc, ◌<◌, List, [], ◌∷◌, take, Bool, true, false, Option, Some, None, refl, sym, ap, subst, ◌∙◌, arith}
 use Rattle.std.specs.Prelude.{Result, Ok, Err, ◌↔◌, IsTrue, IsSome, IsSomeAnd, slice_get}
 use Rattle.std.specs.List.{AllByRecursion}
@@ -12,7 +12,7 @@ use Rattle.jsonb.specs.declared.error.JsonbError.{JsonbError}
 use Rattle.jsonb.proofs.OneRead.{one_read}
 use Rattle.judge.specs.declared.errors.KeywordError.{KeywordError}
 use Rattle.judge.specs.declared.errors.KeywordError.TheVariants as keyword
-use Rattle.judge.specs.Right.{Answer, RightOf, RightWith, RightFrom, Right}
+use Rattle.judge.specs.Right.{Answer, RightOf, RightWith, RightFrom, Right, RightOnTrees}
 
 abbrev Pair : Type 0
 Pair = List ℕ × Tree
@@ -160,3 +160,10 @@ right_from (Ok t) d r q h k = right_with t h.0 d r q h.2 (subst (λ (e : Fault).
 pub one_answer : (k d : List ℕ) (r q : Answer) → Right k d r → Right k d q → r ≡ q
 unfolding Right
 one_answer k d r q h g = right_from h.0 d r q h.2 (subst (λ (s : Result Tree JsonbError). RightFrom s d q) (one_read k g.0 h.0 g.1 h.1) g.2)
+
+-- two trees have at most one right answer
+pub one_on_trees : (k d : Tree) (r q : Result Bool KeywordError) → RightOnTrees k d r → RightOnTrees k d q → r ≡ q
+one_on_trees k d (Err e) (Err f) h g = let same : Some e ≡ Some f = one_fault k (Some e) (Some f) h g in cc
+one_on_trees k d (Err e) (Ok c) h g = let apart : Some e ≡ None = one_fault k (Some e) None h g.0 in absurd cc
+one_on_trees k d (Ok b) (Err f) h g = let apart : None ≡ Some f = one_fault k None (Some f) h.0 g in absurd cc
+one_on_trees k d (Ok b) (Ok c) h g = ap Ok (one_truth b c (Verdict k d) h.1 g.1)

@@ -1,10 +1,7 @@
--- The names of the sixteen keywords that this project knows, and of the seven types (JSON Schema 2020-12, validation,
--- sections 6.1 to 6.5).
+-- The names of the sixteen keywords that this project knows, of those of JSON Schema 2020-12, validation, sections 6.1 to 6.5.
 use Rattle.std.specs.Prelude.{ℕ, List, Option, Some, None, bytes_eq, codes, if◌then◌else◌}
 use Rattle.judge.specs.declared.keyword.Keyword.{Keyword}
 use Rattle.judge.specs.declared.keyword.Keyword.TheVariants.{«Type», Enum, Const, Minimum, Maximum, ExclusiveMinimum, ExclusiveMaximum, MinLength, MaxLength, MinItems, MaxItems, MinProperties, MaxProperties, UniqueItems, Required, Pattern}
-use Rattle.judge.specs.declared.json_type.JsonType.{JsonType}
-use Rattle.judge.specs.declared.json_type.JsonType.TheVariants as types
 
 abbrev pub keyword_of : List ℕ → Option Keyword
 keyword_of name =
@@ -24,13 +21,3 @@ keyword_of name =
     if bytes_eq name (codes "uniqueItems") then Some UniqueItems else
     if bytes_eq name (codes "required") then Some Required else
     if bytes_eq name (codes "pattern") then Some Pattern else None
-
-abbrev pub type_of : List ℕ → Option JsonType
-type_of name =
-    if bytes_eq name (codes "null") then Some types.Null else
-    if bytes_eq name (codes "boolean") then Some types.Boolean else
-    if bytes_eq name (codes "integer") then Some types.Integer else
-    if bytes_eq name (codes "number") then Some types.Number else
-    if bytes_eq name (codes "string") then Some types.String else
-    if bytes_eq name (codes "array") then Some types.Array else
-    if bytes_eq name (codes "object") then Some types.Object else None

@@ -57,3 +57,9 @@ RightFrom (Ok k) document r = (f : Option KeywordError) × HasFault k f × Right
 -- r is the right answer to the two slices
 unfoldable pub Right : List ℕ → List ℕ → Answer → Type 0
 Right keywords document r = (s : Result Tree JsonbError) × IsRead keywords s × RightFrom s document r
+
+-- ---- the answer to two trees: the first fault of the keywords, or the verdict
+
+abbrev pub RightOnTrees : Tree → Tree → Result Bool KeywordError → Type 0
+RightOnTrees k d (Err e) = HasFault k (Some e)
+RightOnTrees k d (Ok b) = HasFault k None × (IsTrue b ↔ Verdict k d)

@@ -1,24 +1,71 @@
 -- Which keyword objects are valid, and the first fault of one that is not: the forms of the JSON Schema 2020-12
--- meta-schema. The order of the causes is this project's own.
-use Rattle.std.specs.Prelude.{ℕ, ◌≡◌, List, Option, Some, None, ⊤, IsSome, IsSomeAnd, slice_get, take}
+-- meta-schema. The order of the causes is this project's own, and so is that an unknown name, and a truth value in place of
+-- a keyword object, are refused.
+use Rattle.std.specs.Prelude.{ℕ, pos, ◌≡◌, ◌⊎◌, ◌<◌, List, [], ◌∷◌, Option, Some, None, ⊤, length, IsSome, IsSomeAnd, slice_get, take}
 use Rattle.std.specs.List.{AllByRecursion}
-use Rattle.json_model.specs.Parts.{as_array, as_object, pairs_of}
+use Rattle.json_model.specs.Decimal.{Decimal, IsBelow, IsWhole}
+use Rattle.json_model.specs.Parts.{as_array, as_object, as_number, as_string, pairs_of}
 use Rattle.json_model.specs.Tree.{Tree}
+use Rattle.json_traits.specs.Numbers.{whole}
+use Rattle.json_traits.specs.declared.types.json_type.JsonType.{JsonType}
 use Rattle.judge.specs.Names.{keyword_of}
-use Rattle.judge.specs.Verdict.{type_named}
+use Rattle.judge.specs.Verdict.{IsNameOf}
 use Rattle.judge.specs.declared.errors.KeywordError.{KeywordError}
 use Rattle.judge.specs.declared.errors.KeywordError.TheVariants.{NotAnObject, UnknownKeyword, BadKeyword, Unbuilt, OutOfMemory}
 use Rattle.judge.specs.declared.keyword.Keyword.{Keyword}
-use Rattle.judge.specs.declared.keyword.Keyword.TheVariants.{«Type»}
+use Rattle.judge.specs.declared.keyword.Keyword.TheVariants.{«Type», Minimum, Maximum, ExclusiveMinimum, ExclusiveMaximum, MinLength, MaxLength, MinItems, MaxItems, MinProperties, MaxProperties, Required}
 
--- what is built: `type` with anything but a list
+-- what is built
 abbrev pub IsBuilt : Keyword → Tree → Type 0
-IsBuilt «Type» v = as_array v ≡ None
+IsBuilt «Type» v = ⊤
+IsBuilt Minimum v = ⊤
+IsBuilt Maximum v = ⊤
+IsBuilt ExclusiveMinimum v = ⊤
+IsBuilt ExclusiveMaximum v = ⊤
+IsBuilt MinLength v = ⊤
+IsBuilt MaxLength v = ⊤
+IsBuilt MinItems v = ⊤
+IsBuilt MaxItems v = ⊤
+IsBuilt MinProperties v = ⊤
+IsBuilt MaxProperties v = ⊤
+IsBuilt Required v = ⊤
 IsBuilt _ v = ⊥
+
+-- a name of a type
+abbrev pub IsTypeName : Tree → Type 0
+IsTypeName v = (t : JsonType) × IsNameOf t v
+
+-- no two of the strings are equal
+abbrev pub AreDistinct : List Tree → Type 0
+AreDistinct [] = ⊤
+AreDistinct (v ∷ vs) = AllByRecursion (λ u. as_string u ≡ as_string v → ⊥) vs × AreDistinct vs
+
+-- at least one name of a type, and none twice
+abbrev pub AreTypeNames : List Tree → Type 0
+AreTypeNames vs = (0 < length vs) × AllByRecursion IsTypeName vs × AreDistinct vs
+
+-- strings, none twice
+abbrev pub AreNames : List Tree → Type 0
+AreNames vs = AllByRecursion (λ v. IsSome (as_string v)) vs × AreDistinct vs
+
+-- a whole number that is not negative, as 2.0
+abbrev pub IsCount : Decimal → Type 0
+IsCount m = IsWhole m × (IsBelow m (whole (pos 0)) → ⊥)
 
 -- the form of a built keyword's value
 abbrev pub HasForm : Keyword → Tree → Type 0
-HasForm «Type» v = IsSome (type_named v)
+HasForm «Type» v = IsTypeName v ⊎ IsSomeAnd (as_array v) AreTypeNames
+HasForm Minimum v = IsSome (as_number v)
+HasForm Maximum v = IsSome (as_number v)
+HasForm ExclusiveMinimum v = IsSome (as_number v)
+HasForm ExclusiveMaximum v = IsSome (as_number v)
+HasForm MinLength v = IsSomeAnd (as_number v) IsCount
+HasForm MaxLength v = IsSomeAnd (as_number v) IsCount
+HasForm MinItems v = IsSomeAnd (as_number v) IsCount
+HasForm MaxItems v = IsSomeAnd (as_number v) IsCount
+HasForm MinProperties v = IsSomeAnd (as_number v) IsCount
+HasForm MaxProperties v = IsSomeAnd (as_number v) IsCount
+HasForm Required v = IsSomeAnd (as_array v) AreNames
 HasForm _ v = ⊤
 
 -- a member with no fault

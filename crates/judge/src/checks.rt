@@ -1,24 +1,40 @@
 //! Compiled keyword objects.
 
-ghost use Rattle.std.specs.Prelude.{◌≡◌, ◌↔◌, IsTrue, Some, None, IfErr, OnOk, MatchResult};
+ghost use Rattle.std.specs.Prelude.{◌≡◌, ◌↔◌, ◌⊎◌, ◌≤◌, IsTrue, IsOk, Some, Err, IfOk, IfErr, OnOk, MatchResult};
+ghost use Rattle.json_model.specs.Nest.{nest};
 ghost use Rattle.json_model.specs.Tree.{Tree};
-ghost use Rattle.json_model.specs.Parts.{as_array};
-ghost use Rattle.jsonb.specs.Nodes.{node_tree};
 ghost use Rattle.judge.specs.Names.{keyword_of};
 ghost use Rattle.judge.specs.Passes.{AddFault, Adds, HasThisFault, IsCompiled, IsFault, IsFree, Passes, Took};
-ghost use Rattle.judge.specs.Verdict.{type_named};
 ghost use Rattle.judge.specs.declared.keyword.Keyword.{Keyword};
-ghost use Rattle.judge.specs.declared.keyword.Keyword.TheVariants as keywords;
 
+use crate::count::Count;
 use crate::errors::KeywordError;
-use crate::json_type::JsonType;
 use crate::keyword::Keyword;
-use jsonb::JsonbNode;
+use crate::meets::{meets_bound, meets_items, meets_lengths, meets_members, meets_types};
+use crate::names::{meets_required, read_names};
+use crate::read::{read_bound, read_count, read_types};
+use json_exact::OutOfMemory;
+use json_semantics::numeric_check::{BoundOp, CompiledBound};
+use json_traits::types::JsonTypeSet;
+use json_traits::{Node, Object};
+use std::alloc::Global;
 
-/// What a keyword object asks of documents, each keyword's value in a type of its own.
-#[derive(Clone, Copy)]
-pub(crate) struct Checks {
-    json_type: Option<JsonType>,
+/// A keyword object that is compiled once and checks many documents, whatever holds them: what it asks, with each keyword's
+/// value in a type of its own.
+#[derive(Drop)]
+pub struct Checks {
+    types: Option<JsonTypeSet>,
+    minimum: Option<CompiledBound>,
+    maximum: Option<CompiledBound>,
+    exclusive_minimum: Option<CompiledBound>,
+    exclusive_maximum: Option<CompiledBound>,
+    min_length: Option<Count>,
+    max_length: Option<Count>,
+    min_items: Option<Count>,
+    max_items: Option<Count>,
+    min_properties: Option<Count>,
+    max_properties: Option<Count>,
+    required: Option<Vec<String>>,
 }
 
 impl Checks {
@@ -27,61 +43,89 @@ impl Checks {
         ensures passes { (d : Tree) → Passes result d }
         ensures free { (w : Keyword) → IsFree w result }
     {
-        Checks { json_type: None }
-    }
-
-    /// Takes in a keyword with its value, which is member number `member`.
-    fn add(
-        &mut self,
-        keyword: Keyword,
-        value: &JsonbNode<'_>,
-        member: usize,
-    ) -> Result<(), KeywordError>
-        requires { IsFree keyword self.old }
-        ensures ok { OnOk result (Adds self.old keyword (node_tree value.now) self.new) }
-        ensures err { IfErr result (AddFault member keyword (node_tree value.now)) }
-    {
-        match keyword {
-            Keyword::Type => match read_type(value, member) {
-                Ok(json_type) => {
-                    self.json_type = Some(json_type);
-                    Ok(())
-                }
-                Err(error) => Err(error),
-            },
-            _ => Err(KeywordError::Unbuilt),
+        Checks {
+            types: None,
+            minimum: None,
+            maximum: None,
+            exclusive_minimum: None,
+            exclusive_maximum: None,
+            min_length: None,
+            max_length: None,
+            min_items: None,
+            max_items: None,
+            min_properties: None,
+            max_properties: None,
+            required: None,
         }
     }
 
-    /// Takes in member number `member`.
-    fn take_member(
+    /// Takes in a keyword with its value, which is member number `member`.
+    fn add<'a, N: Node<'a>>(
         &mut self,
+        alloc: Global,
+        keyword: Keyword,
+        value: &N,
+        member: usize,
+    ) -> Result<(), KeywordError>
+        requires { IsFree keyword self.old }
+        ensures ok { OnOk result (Adds self.old keyword (N.tree value.now) self.new) }
+        ensures err { IfErr result (AddFault member keyword (N.tree value.now)) }
+    {
+        match keyword {
+            Keyword::Type => self.types = Some(read_types(value, member)?),
+            Keyword::Minimum => self.minimum = Some(read_bound(BoundOp::Gte, value, member)?),
+            Keyword::Maximum => self.maximum = Some(read_bound(BoundOp::Lte, value, member)?),
+            Keyword::ExclusiveMinimum => {
+                self.exclusive_minimum = Some(read_bound(BoundOp::Gt, value, member)?)
+            }
+            Keyword::ExclusiveMaximum => {
+                self.exclusive_maximum = Some(read_bound(BoundOp::Lt, value, member)?)
+            }
+            Keyword::MinLength => self.min_length = Some(read_count(value, member)?),
+            Keyword::MaxLength => self.max_length = Some(read_count(value, member)?),
+            Keyword::MinItems => self.min_items = Some(read_count(value, member)?),
+            Keyword::MaxItems => self.max_items = Some(read_count(value, member)?),
+            Keyword::MinProperties => self.min_properties = Some(read_count(value, member)?),
+            Keyword::MaxProperties => self.max_properties = Some(read_count(value, member)?),
+            Keyword::Required => self.required = Some(read_names(alloc, value, member)?),
+            _ => return Err(KeywordError::Unbuilt),
+        }
+        Ok(())
+    }
+
+    /// Takes in member number `member`.
+    fn take_member<'a, N: Node<'a>>(
+        &mut self,
+        alloc: Global,
         name: &str,
-        value: &JsonbNode<'_>,
+        value: &N,
         member: usize,
     ) -> Result<(), KeywordError>
         requires { (w : Keyword) → keyword_of name.now ≡ Some w → IsFree w self.old }
-        ensures ok { OnOk result (Took self.old (name.now, node_tree value.now) self.new) }
-        ensures err { IfErr result (IsFault member (name.now, node_tree value.now)) }
+        ensures ok { OnOk result (Took self.old (name.now, N.tree value.now) self.new) }
+        ensures err { IfErr result (IsFault member (name.now, N.tree value.now)) }
     {
         match Keyword::from_name(name) {
-            Some(keyword) => self.add(keyword, value, member),
+            Some(keyword) => self.add(alloc, keyword, value, member),
             None => Err(KeywordError::UnknownKeyword { member }),
         }
     }
 
     /// Compiles a keyword object, whose members it walks once, in key order. The error is that of the first faulty member.
-    /// It takes no memory.
-    pub(crate) fn compile(root: &JsonbNode<'_>) -> Result<Checks, KeywordError>
-        ensures { MatchResult result (IsCompiled (node_tree root.now)) (HasThisFault (node_tree root.now)) }
+    /// It takes memory for the names that `required` lists alone.
+    pub fn compile<'a, N: Node<'a>>(alloc: Global, root: &N) -> Result<Checks, KeywordError>
+        ensures right { (result ≡ Err KeywordError.OutOfMemory) ⊎ MatchResult result (IsCompiled (N.tree root.now)) (HasThisFault (N.tree root.now)) }
+        ensures free { nest (N.tree root.now) ≤ 1 → result ≡ Err KeywordError.OutOfMemory → ⊥ }
     {
         let Some(object) = root.as_object() else {
             return Err(KeywordError::NotAnObject);
         };
+        let count = object.len();
         let mut checks = Checks::empty();
         let mut member = 0;
         for (name, value) in object.members() {
-            match checks.take_member(name, &value, member) {
+            prove!(member < count);
+            match checks.take_member(alloc, name, &value, member) {
                 Ok(()) => member += 1,
                 Err(error) => return Err(error),
             }
@@ -89,30 +133,20 @@ impl Checks {
         Ok(checks)
     }
 
-    /// Whether a document passes. It takes no memory.
-    pub(crate) fn check(&self, document: &JsonbNode<'_>) -> bool
-        ensures { IsTrue result ↔ Passes self.now (node_tree document.now) }
+    /// Whether a document passes each check: where it is valid under the keyword object. It takes no memory.
+    pub fn check<'a, N: Node<'a>>(&self, _alloc: Global, node: &N) -> Result<bool, OutOfMemory>
+        ensures ok { IsOk result }
+        ensures right { IfOk result (λ b. IsTrue b ↔ Passes self.now (N.tree node.now)) }
     {
-        match self.json_type {
-            Some(json_type) => json_type.is_of(document),
-            None => true,
-        }
-    }
-}
-
-/// The type that the value of `type` names.
-#[tactic(auto, using(json_model::proofs::KindLaws::array_some, json_model::proofs::KindLaws::array_none))]
-fn read_type(value: &JsonbNode<'_>, member: usize) -> Result<JsonType, KeywordError>
-    ensures { MatchResult result (λ t. (as_array (node_tree value.now) ≡ None) × (type_named (node_tree value.now) ≡ Some t)) (AddFault member keywords.«Type» (node_tree value.now)) }
-{
-    if value.as_array().is_some() {
-        return Err(KeywordError::Unbuilt);
-    }
-    let Some(name) = value.as_string() else {
-        return Err(KeywordError::BadKeyword { member });
-    };
-    match JsonType::from_name(name) {
-        Some(json_type) => Ok(json_type),
-        None => Err(KeywordError::BadKeyword { member }),
+        let passes = meets_types(self.types, node)
+            && meets_bound(&self.minimum, node)
+            && meets_bound(&self.maximum, node)
+            && meets_bound(&self.exclusive_minimum, node)
+            && meets_bound(&self.exclusive_maximum, node)
+            && meets_lengths(self.min_length, self.max_length, node)
+            && meets_items(self.min_items, self.max_items, node)
+            && meets_members(self.min_properties, self.max_properties, node)
+            && meets_required(&self.required, node);
+        Ok(passes)
     }
 }

@@ -20,27 +20,28 @@ pub enum Fault {
     NumberTooWide,
 }
 
-/// Why a keyword object is refused. `member` is a member's place in key order, from 0.
+/// Why a keyword object is refused: by its first faulty member in key order, if it is an object. `member` is a member's place in
+/// key order, from 0.
 #[derive(Clone, Copy, Debug, PartialEq, Eq, Error)]
 pub enum KeywordError {
     /// The keywords are no object, as `[]`.
     #[error("NotAnObject")]
     NotAnObject,
-    /// A member has none of the sixteen names, as in `{"x":1}`.
+    /// The first faulty member has none of the sixteen names, as in `{"x":1}`.
     #[error("UnknownKeyword")]
     UnknownKeyword { member: usize },
-    /// A member's value has not the form that its keyword asks for, as in `{"type":"x"}`.
+    /// The first faulty member's value has not the form that its keyword asks for, as in `{"type":"x"}`.
     #[error("BadKeyword")]
     BadKeyword { member: usize },
-    /// A member has a name that is known and not built yet, or is `type` with a list.
+    /// The first faulty member has a name that is known and not built yet, as in `{"enum":[]}`.
     #[error("Unbuilt")]
     Unbuilt,
-    /// Memory is wanting.
+    /// Memory for the names that `required` lists is wanting.
     #[error("OutOfMemory")]
     OutOfMemory,
 }
 
-/// Why `judge` gives no verdict. The first cause that stands is answered: those of the keywords' bytes, those of the
+/// Why `judge` gives no verdict. Want of memory aside, the first cause that stands is answered: those of the keywords' bytes, those of the
 /// keyword object, of which the first faulty member in key order counts, and those of the document's bytes.
 #[derive(Clone, Copy, Debug, PartialEq, Eq, Error)]
 pub enum JudgeError {
@@ -59,10 +60,10 @@ pub enum JudgeError {
     /// The document's bytes are no JSON tree.
     #[error("Document({0})")]
     Document(Fault),
-    /// The first faulty member has a name that is known and not built yet, or is `type` with a list.
+    /// The first faulty member has a name that is known and not built yet, as in `{"enum":[]}`.
     #[error("Unbuilt")]
     Unbuilt,
-    /// Memory for the nesting of a slice is wanting.
+    /// Memory for the nesting of a slice, or for the names that `required` lists, is wanting.
     #[error("OutOfMemory")]
     OutOfMemory,
 }

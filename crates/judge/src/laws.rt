@@ -1,12 +1,49 @@
-//! A law of the answers, for all slices. The function does nothing: its contract is what it is for.
+//! Laws of the answers, for all slices and for all nodes. What a function here is for is its contract.
 
-ghost use Rattle.std.specs.Prelude.{◌≡◌};
-ghost use Rattle.judge.specs.Right.{Answer, Right};
+ghost use Rattle.std.specs.Prelude.{◌≡◌, ◌↔◌, Bool, Result, IsTrue};
+ghost use Rattle.judge.specs.Passes.{Passes};
+ghost use Rattle.json_exact.specs.Trees.{tree};
+ghost use Rattle.judge.specs.Right.{Answer, Right, RightOnTrees};
+ghost use Rattle.judge.specs.declared.errors.KeywordError.{KeywordError};
 
-/// Each pair of slices has one right answer.
+use crate::checks::Checks;
+use json_exact::Value;
+use json_semantics::ValueNode;
+use json_traits::Node;
+use std::alloc::Global;
+
+/// Each pair of slices has at most one right answer.
 pub fn one_answer(keywords: &[u8], document: &[u8])
     ensures { (r q : Answer) → Right keywords.now document.now r → Right keywords.now document.now q → r ≡ q }
 {
     let _keywords = keywords.len();
     let _document = document.len();
+}
+
+/// Two values have at most one right answer, as keywords and as a document: the causes of a refusal exclude one another.
+pub fn one_answer_on_values(keywords: &Value, document: &Value)
+    ensures { (r q : Result Bool KeywordError) → RightOnTrees (tree keywords.now) (tree document.now) r → RightOnTrees (tree keywords.now) (tree document.now) q → r ≡ q }
+{
+    let _keywords = ValueNode::new(keywords);
+    let _document = ValueNode::new(document);
+}
+
+/// The verdicts on two nodes, which are one where both stand for one tree, whatever holds them: a slice, or a value in memory.
+pub fn one_verdict<'a, M: Node<'a>, N: Node<'a>>(
+    alloc: Global,
+    checks: &Checks,
+    first: &M,
+    second: &N,
+) -> (bool, bool)
+    ensures first { IsTrue result.0 ↔ Passes checks.now (M.tree first.now) }
+    ensures second { IsTrue result.1 ↔ Passes checks.now (N.tree second.now) }
+    ensures one { M.tree first.now ≡ N.tree second.now → result.0 ≡ result.1 }
+{
+    let Ok(first) = checks.check(alloc, first) else {
+        unreachable!()
+    };
+    let Ok(second) = checks.check(alloc, second) else {
+        unreachable!()
+    };
+    (first, second)
 }

@@ -1,10 +1,18 @@
-//! Is a document valid under a keyword object, both as PostgreSQL `jsonb` bytes, by JSON Schema 2020-12? And the program
-//! that answers this for lines.
+//! Is a document valid under a keyword object, by JSON Schema 2020-12? Both are PostgreSQL `jsonb` bytes, or values in
+//! memory. And the program that answers this for lines.
 //!
 //! [`judge`] answers for two slices. For example the keywords `01000020 04000080 07000000 74797065 696e7465676572`, in hex,
 //! are `{"type":"integer"}`, and the document `01000050 08000090 20000000 8080 0100` is 1.0: it is valid, since 1.0 is an
-//! integer. Both slices are read whole, whether a keyword looks at a part or not. What is no JSON tree, no keyword object
-//! or not built yet is refused by a [`JudgeError`].
+//! integer. The keywords are read whole, and where they have no fault the document is too, whether a keyword looks at a part
+//! or not. What is no JSON tree, no keyword object or not built yet is refused by a [`JudgeError`].
+//!
+//! [`judge_values`] answers for two `json_exact::Value`s. Both stand on [`Checks`], a keyword object that is compiled once and
+//! checks many documents, whatever holds them: [`Checks::compile`] and [`Checks::check`] take each `json_traits::Node`. Why a
+//! keyword object is refused, and mostly where, is a [`KeywordError`]. Nodes of one tree get one verdict ([`laws::one_verdict`]).
+//!
+//! Built are `type`, the four bounds of numbers, the least and greatest counts of code points, elements and members, and
+//! `required`. `enum`, `const`, `uniqueItems` and `pattern` are known and not built yet: a keyword object that has one is refused
+//! as [`KeywordError::Unbuilt`].
 //!
 //! [`run`] reads lines from a [`Source`], judges each, and writes one line of answer for each to a [`Sink`]. A line is
 //! two hex texts with one space between, the keywords and the document. For example the lines
@@ -27,23 +35,29 @@
 
 mod answer;
 mod checks;
+mod count;
 mod cut;
 mod errors;
-mod json_type;
 mod keyword;
 pub mod laws;
 mod lines;
+mod meets;
 mod memory;
+mod names;
 mod program;
+mod read;
 mod status;
 mod steady;
 mod stream;
+mod values;
 mod verdict;
 
-pub use errors::{Fault, JudgeError};
+pub use checks::Checks;
+pub use errors::{Fault, JudgeError, KeywordError};
 pub use memory::{MemorySink, MemorySource};
 pub use program::run;
 pub use status::Status;
 pub use steady::{SteadySink, SteadySource};
 pub use stream::{Failed, Sink, SinkError, Source};
+pub use values::judge_values;
 pub use verdict::judge;

@@ -8,13 +8,15 @@ ghost use Rattle.judge.specs.Right.{Right};
 
 use crate::checks::Checks;
 use crate::errors::JudgeError;
+use json_exact::OutOfMemory;
 use jsonb::Jsonb;
 use std::alloc::Global;
 
 /// Whether the document is valid under the keyword object, both as PostgreSQL `jsonb` bytes, by JSON Schema 2020-12.
 ///
-/// Both slices are read whole, in place, whether a keyword looks at a part or not. Memory is taken for their nesting
-/// alone: where no container of either stands inside another, none is.
+/// The keywords are read whole, in place, and where they have no fault the document is too, whether a keyword looks at a part
+/// or not. Memory is taken for the nesting and for the names that `required` lists: where no container of either stands
+/// inside another, none is.
 pub fn judge(alloc: Global, keywords: &[u8], document: &[u8]) -> Result<bool, JudgeError>
     ensures right { (result ≡ Err JudgeError.OutOfMemory) ⊎ Right keywords.now document.now result }
     ensures free { (t u : Tree) → Stands keywords.now t → nest t ≤ 1 → Stands document.now u → nest u ≤ 1 → result ≡ Err JudgeError.OutOfMemory → ⊥ }
@@ -23,12 +25,16 @@ pub fn judge(alloc: Global, keywords: &[u8], document: &[u8]) -> Result<bool, Ju
         Ok(root) => root,
         Err(error) => return Err(JudgeError::of_keywords(error)),
     };
-    let checks = match Checks::compile(&root) {
+    let checks = match Checks::compile(alloc, &root) {
         Ok(checks) => checks,
         Err(error) => return Err(JudgeError::of_keyword(error)),
     };
-    match Jsonb::root(alloc, document) {
-        Ok(node) => Ok(checks.check(&node)),
-        Err(error) => Err(JudgeError::of_document(error)),
+    let node = match Jsonb::root(alloc, document) {
+        Ok(node) => node,
+        Err(error) => return Err(JudgeError::of_document(error)),
+    };
+    match checks.check(alloc, &node) {
+        Ok(valid) => Ok(valid),
+        Err(OutOfMemory) => Err(JudgeError::OutOfMemory),
     }
 }

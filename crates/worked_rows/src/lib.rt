@@ -5,12 +5,6 @@
 #[cfg(test)]
 mod hex_texts;
 #[cfg(test)]
-mod layout;
-#[cfg(test)]
-mod nodes;
-#[cfg(test)]
-mod numbers;
-#[cfg(test)]
 mod runs;
 #[cfg(test)]
 mod slow;

@@ -1,30 +1,60 @@
-use Rattle.std.proofs.Common.{arith, ap, ◌∙◌}
-use Rattle.jsonb.specs.Nodes.{node_tree, members_left, object_tree}
-use Rattle.judge.proofs.Compiling.{object_starts, free_now, fits_now, goes_on, stops, ends}
+use Rattle.std.proofs.Common.{inr, refl, ap, ◌∙◌, length, length-append, arith}
+use Rattle.json_model.proofs.KindLaws.{if_object_is, object_some}
+use Rattle.json_model.specs.Parts.{pairs_of}
+use Rattle.json_traits.proofs.GivesLaws.{left_item, left_end}
+use Rattle.judge.proofs.Compiling.{starts, free_now, goes_on, stops, stops_with_memory, ends}
 use Rattle.judge.proofs.checks.Checks.compile.Goals as goal
 
 pub loop-name-init : goal.loop-name-init
-loop-name-init c = record {
-  can = tt;
-  finite = tt;
-  walked = object_starts (node_tree c.args.root.now) (object_tree c.in-Some.object) c.empty-checks.result (members_left c.into_iter-name-iterator.result) c.in-Some.ensures (ap members_left c.into_iter-name-iterator.ensures.into_iter_gives ∙ c.members-name-items.ensures.pairs) c.members-name-items.ensures.few c.members-name-items.ensures.rise c.empty-checks.ensures.passes c.empty-checks.ensures.free;
-}
+loop-name-init g c =
+    let t = g.N.HasTree.tree c.args.root.now in
+    let same = if_object_is t c.in-Some.ensures in
+    record {
+      can = rw c.into_iter-name-iterator.ensures.into_iter_gives c.members-name-items.ensures.can;
+      ends = rw c.into_iter-name-iterator.ensures.into_iter_gives c.members-name-items.ensures.ends;
+      left = rw (c.into_iter-name-iterator.ensures.into_iter_gives, ← same) c.members-name-items.ensures.gives;
+      place = refl;
+      counted = c.len-count.ensures ∙ ap (λ u. length (pairs_of u)) same;
+      walked = starts t c.empty-checks.result (rw (object_some t c.in-Some.ensures) refl) (rw (← same) c.members-name-items.ensures.rise) c.empty-checks.ensures.passes c.empty-checks.ensures.free;
+    }
 
 pub take_member-requires : goal.take_member-requires
-take_member-requires c = free_now (node_tree c.args.root.now) c.loop-name.checks c.loop-name.member (members_left c.loop-name.name-iterator) (members_left c.next.new.self) (c.in-Some-2.name.now, node_tree c.in-Some-2.value) c.in-Some-2.ensures.steps c.loop-name.invariant.walked
+take_member-requires g c κs =
+    let t = g.N.HasTree.tree c.args.root.now in
+    let k = length c.loop-name.yielded in
+    let r = left_item {j = c.next.new.self} (pairs_of t) k c.loop-name.invariant.left c.in-Some-2.ensures.steps in
+    ((refl, tt), free_now t c.loop-name.checks k (c.in-Some-2.name.now, g.N.HasTree.tree c.in-Some-2.value) r.0 c.loop-name.invariant.walked)
 
-pub returns-in-Err : goal.returns-in-Err
-returns-in-Err c = stops (node_tree c.args.root.now) c.loop-name.checks c.loop-name.member (members_left c.loop-name.name-iterator) (members_left c.next.new.self) (c.in-Some-2.name.now, node_tree c.in-Some-2.value) c.in-Some-2.ensures.steps c.loop-name.invariant.walked c.in-Err.error c.in-Err.ensures.err
+pub returns-in-Err-clause-right : goal.returns-in-Err-clause-right
+returns-in-Err-clause-right g c =
+    let t = g.N.HasTree.tree c.args.root.now in
+    let k = length c.loop-name.yielded in
+    let r = left_item {j = c.next.new.self} (pairs_of t) k c.loop-name.invariant.left c.in-Some-2.ensures.steps in
+    stops t c.loop-name.checks k (c.in-Some-2.name.now, g.N.HasTree.tree c.in-Some-2.value) r.0 c.loop-name.invariant.walked c.loop-name.member c.in-Err.error c.loop-name.invariant.place c.in-Err.ensures.err
 
-pub overflow_add-member : goal.overflow_add-member
-overflow_add-member c = omega (arith, fits_now (node_tree c.args.root.now) c.loop-name.checks c.loop-name.member (members_left c.loop-name.name-iterator) (members_left c.next.new.self) (c.in-Some-2.name.now, node_tree c.in-Some-2.value) c.in-Some-2.ensures.steps c.loop-name.invariant.walked)
+pub returns-in-Err-clause-free : goal.returns-in-Err-clause-free
+returns-in-Err-clause-free g c =
+    let t = g.N.HasTree.tree c.args.root.now in
+    let k = length c.loop-name.yielded in
+    let r = left_item {j = c.next.new.self} (pairs_of t) k c.loop-name.invariant.left c.in-Some-2.ensures.steps in
+    stops_with_memory t c.loop-name.checks k (c.in-Some-2.name.now, g.N.HasTree.tree c.in-Some-2.value) r.0 c.loop-name.invariant.walked c.loop-name.member c.in-Err.error c.in-Err.ensures.err
 
 pub loop-name-preserved : goal.loop-name-preserved
-loop-name-preserved c = record {
-  can = tt;
-  finite = tt;
-  walked = goes_on (node_tree c.args.root.now) c.loop-name.checks c.loop-name.member (members_left c.loop-name.name-iterator) (members_left c.next.new.self) (c.in-Some-2.name.now, node_tree c.in-Some-2.value) c.in-Some-2.ensures.steps c.loop-name.invariant.walked c.take_member.new.self c.in-Ok.ensures.ok;
-}
+loop-name-preserved g c =
+    let t = g.N.HasTree.tree c.args.root.now in
+    let k = length c.loop-name.yielded in
+    let r = left_item {j = c.next.new.self} (pairs_of t) k c.loop-name.invariant.left c.in-Some-2.ensures.steps in
+    record {
+      can = c.in-Some-2.ensures.goes.keeps;
+      ends = (c.in-Some-2.ensures.goes.on c.loop-name.invariant.ends).1;
+      left = simp length-append r.1;
+      place = simp length-append (let e = c.loop-name.invariant.place in omega arith);
+      counted = c.loop-name.invariant.counted;
+      walked = simp length-append (goes_on t c.loop-name.checks k (c.in-Some-2.name.now, g.N.HasTree.tree c.in-Some-2.value) r.0 c.loop-name.invariant.walked c.take_member.new.self c.in-Ok.ensures.ok);
+    }
 
-pub returns : goal.returns
-returns c = ends (node_tree c.args.root.now) c.loop-name.checks c.loop-name.member (members_left c.loop-name.name-iterator) c.in-None.ensures.steps.0 c.loop-name.invariant.walked
+pub returns-clause-right : goal.returns-clause-right
+returns-clause-right g c =
+    let t = g.N.HasTree.tree c.args.root.now in
+    let k = length c.loop-name.yielded in
+    inr (ends t c.loop-name.checks k (left_end {u = c.next.new.self} (pairs_of t) k c.loop-name.invariant.left c.in-None.ensures.steps) c.loop-name.invariant.walked)

@@ -1,10 +1,18 @@
-use Rattle.jsonb.specs.Nodes.{node_tree, members_left}
+use Rattle.std.proofs.Common.{◌≡◌, length, drop}
+use Rattle.json_model.specs.Parts.{pairs_of}
+use Rattle.json_traits.specs.Gives.{Gives}
 use Rattle.judge.proofs.Compiling.{Walked}
 use Rattle.judge.proofs.checks.Checks.compile.Given as goal
 
 abbrev pub invariant-loop-name : goal.invariant-loop-name
-invariant-loop-name l = record {
-  can : (goal.iterator-loop-name).can_next l.name-iterator;
-  finite : (goal.iterator-loop-name).is_finite l.name-iterator;
-  walked : Walked (node_tree l.root) l.checks l.member (members_left l.name-iterator);
-}
+invariant-loop-name g l =
+    let t = g.N.HasTree.tree l.root in
+    let k = length l.yielded in
+    record {
+      can : (goal.iterator-loop-name g).can_next l.name-iterator;
+      ends : (goal.iterator-loop-name g).is_finite l.name-iterator;
+      left : Gives (goal.iterator-loop-name g).next_gives (λ p. (p.0.now, g.N.HasTree.tree p.1)) l.name-iterator (drop k (pairs_of t));
+      place : l.member ≡ k;
+      counted : l.count ≡ length (pairs_of t);
+      walked : Walked t l.checks k;
+    }

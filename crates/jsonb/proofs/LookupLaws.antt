@@ -1,0 +1,194 @@
+-- Searching the keys of an object.
+use Rattle.std.proofs.Common.{◌≡◌, ℕ, zero, suc, ◌+◌, ◌-◌, ◌<◌, ◌≤◌, Bool, true, false, cond, List, [], ◌∷◌, Option, Some, None, refl, sym, ap, subst, ◌∙◌, arith}
+use Rattle.std.specs.Prelude.{bytes_eq}
+use Rattle.json_model.specs.Parts.{pairs_in, pairs_of, lookup}
+use Rattle.json_model.specs.Tree.{Tree, object, Elements, element, Members, member}
+use Rattle.jsonb_layout.specs.Layout.{Item}
+use Rattle.jsonb_layout.specs.Reading.{◌>>=◌, Place, item_at}
+use Rattle.jsonb_layout.specs.Trees.{elements_by, members, read, item_tree}
+use Rattle.jsonb_layout.proofs.Tools.{bind_some, some_is}
+use Rattle.jsonb.specs.Found.{text_found, tree_found, members_found, both}
+use Rattle.jsonb.specs.Lookup.{behind_key}
+use Rattle.jsonb.specs.Values.{or_null, is_clean, IsJsonTree, object_at, names_at, skip}
+use Rattle.jsonb.proofs.MemberLaws.{holds, pairs_are, keys_names, both_clean}
+
+abbrev some : {A : Type 0} → A → Option A
+some x = Some x
+
+-- ---- the walk over the keys
+
+module _ (k : List ℕ) (count i : ℕ) (p : Place) (total : Option Place) (so_far : behind_key k (count - i) p ≡ total) where
+  count_down : i < count → count - i ≡ suc (count - (i + 1))
+  count_down lt = omega arith
+
+  pub key_none : i < count → None ≡ item_at p → None ≡ total
+  unfolding behind_key
+  key_none lt h = let one : behind_key k (count - i) p ≡ None = rw (count_down lt, ← h) refl in sym one ∙ so_far
+
+  module _ (x : Item) (q : Place) (lt : i < count) (h : Some (x, q) ≡ item_at p) where
+    pub key_here : true ≡ bytes_eq k x.piece → Some q ≡ total
+    unfolding behind_key
+    key_here e = let one : behind_key k (count - i) p ≡ Some q = rw (count_down lt, ← h, ← e) refl in sym one ∙ so_far
+
+    pub key_on : false ≡ bytes_eq k x.piece → behind_key k (count - (i + 1)) q ≡ total
+    unfolding behind_key
+    key_on e = let one : behind_key k (count - i) p ≡ behind_key k (count - (i + 1)) q = rw (count_down lt, ← h, ← e) refl in sym one ∙ so_far
+
+  pub key_nowhere : count ≤ i → None ≡ total
+  unfolding behind_key
+  key_nowhere le = let n : count - i ≡ 0 = omega arith in let one : behind_key k (count - i) p ≡ None = rw n refl in sym one ∙ so_far
+
+-- ---- past two runs of items
+
+skip_plus : (a b : ℕ) (p q : Place) → skip a p ≡ Some q → skip (a + b) p ≡ skip b q
+unfolding skip
+skip_plus zero b p q e =
+    let n : 0 + b ≡ b = omega arith in
+    ap (λ (k : ℕ). skip k p) n ∙ ap (λ (r : Option Place). r >>= λ p. skip b p) e
+skip_plus (suc a) b p q e =
+    let x = bind_some (item_at p) (λ x. skip a x.1) q e in
+    let n : suc a + b ≡ suc (a + b) = omega arith in
+    ap (λ (k : ℕ). skip k p) n ∙ ap (λ (r : Option (Item × Place)). r >>= λ x. skip (a + b) x.1) x.1 ∙ skip_plus a b x.0.1 q x.2
+
+skip_one : (p q : Place) (y : Item) → item_at p ≡ Some (y, q) → skip 1 p ≡ Some q
+unfolding skip
+skip_one p q y e = rw e refl
+
+-- names end where so many items end
+names_skip : (n : ℕ) (p : Place) (r : List (List ℕ) × Place) → names_at n p ≡ Some r → skip n p ≡ Some r.1
+unfolding names_at skip
+names_skip zero p r e = ap (λ (o : Option (List (List ℕ) × Place)). o >>= λ r. some r.1) e
+names_skip (suc n) p r e =
+    let x = bind_some (item_at p) (λ x. names_at n x.1 >>= λ ks. Some (x.0.piece ∷ ks.0, ks.1)) r e in
+    let ks = bind_some (names_at n x.0.1) (λ ks. some (x.0.0.piece ∷ ks.0, ks.1)) r x.2 in
+    ap (λ (o : Option (Item × Place)). o >>= λ x. skip n x.1) x.1 ∙ names_skip n x.0.1 ks.0 ks.1 ∙ ap (λ (o : Option (List (List ℕ) × Place)). o >>= λ r. some r.1) ks.2
+
+-- ---- what is found
+
+-- so many items behind a place there is a value, and it is what is looked for
+pub record IsFound (c : ℕ) (a : Place) (wanted : Option Tree) : Type 0 where
+  pub value : Place
+  pub item : Item
+  pub after : Place
+  pub tree : Tree
+  pub passed : skip (c - 1) a ≡ Some value
+  pub here : item_at value ≡ Some (item, after)
+  pub stands : item_tree value.at item ≡ Some tree
+  pub clean : is_clean (tree_found tree) ≡ true
+  pub wanted_is : wanted ≡ Some tree
+
+abbrev pub Outcome : ℕ → Option Place → Option Tree → Type 0
+Outcome c None wanted = wanted ≡ None
+Outcome c (Some a) wanted = IsFound c a wanted
+
+module _ (k : List ℕ) (c n m : ℕ) (total : suc n + m ≡ c) (p p' b q q' : Place) (x y : Item) (ks : List (List ℕ)) (t : Tree) (all more : Members) (all_is : all ≡ member x.piece t more) where
+  walk_on : item_at p ≡ Some (x, p') → behind_key k (suc n) p ≡ cond (bytes_eq k x.piece) (Some p') (behind_key k n p')
+  unfolding behind_key
+  walk_on e = rw e refl
+
+  parts : is_clean (members_found all) ≡ true → (is_clean (tree_found t) ≡ true) × (is_clean (members_found more) ≡ true)
+  parts h =
+      let both_parts = both_clean (both (text_found x.piece) (tree_found t)) (members_found more) (subst (λ (ms : Members). is_clean (members_found ms) ≡ true) all_is h) in
+      ((both_clean (text_found x.piece) (tree_found t) both_parts.0).1, both_parts.1)
+
+  -- the first key is the key, or the rest of the walk decides
+  one_key : item_at p ≡ Some (x, p') → names_at n p' ≡ Some (ks, b) → skip m b ≡ Some q → item_at q ≡ Some (y, q') → item_tree q.at y ≡ Some t → is_clean (members_found all) ≡ true
+      → (is_clean (members_found more) ≡ true → (r : Option Place) → behind_key k n p' ≡ r → Outcome c r (lookup k (pairs_in more)))
+      → (r : Option Place) → behind_key k (suc n) p ≡ r → Outcome c r (lookup k (pairs_in all))
+  one_key ex en es ey et clean rest r er = subst (λ (ms : Members). Outcome c r (lookup k (pairs_in ms))) (sym all_is) (go (bytes_eq k x.piece) r (sym (walk_on ex) ∙ er))
+    where
+      here : IsFound c p' (Some t)
+      here =
+          let less : c - 1 ≡ n + m = omega (arith, total) in
+          record {
+            value = q;
+            item = y;
+            after = q';
+            tree = t;
+            passed = ap (λ (j : ℕ). skip j p') less ∙ skip_plus n m p' b (names_skip n p' (ks, b) en) ∙ es;
+            here = ey;
+            stands = et;
+            clean = (parts clean).0;
+            wanted_is = refl;
+          }
+
+      go : (same : Bool) (r : Option Place) → cond same (Some p') (behind_key k n p') ≡ r → Outcome c r (cond same (Some t) (lookup k (pairs_in more)))
+      go true r e = subst (λ (r : Option Place). Outcome c r (Some t)) e here
+      go false r e = rest (parts clean).1 r e
+
+same_end : (l l' : List (List ℕ)) (b b' : Place) → some {A = List (List ℕ) × Place} (l, b) ≡ some (l', b') → b ≡ b'
+same_end l l' b b' e = ap (λ (o : List (List ℕ) × Place). o.1) (some_is (l, b) (l', b') e)
+
+same_members : (l l' : List (List ℕ)) (b b' : Place) (ts ts' : Elements) (e e' : Place) → some {A = List (List ℕ) × Place} (l, b) ≡ some (l', b') → some {A = Elements × Place} (ts, e) ≡ some (ts', e') → members l' ts' ≡ members l ts
+same_members l l' b b' ts ts' e e' f g =
+    ap (λ (a : List (List ℕ)). members a ts') (ap (λ (o : List (List ℕ) × Place). o.0) (some_is (l', b') (l, b) (sym f)))
+    ∙ ap (λ (a : Elements). members l a) (ap (λ (o : Elements × Place). o.0) (some_is (ts', e') (ts, e) (sym g)))
+
+-- the walk over the keys finds what stands under the key, or shows that nothing does
+walk_finds : (k : List ℕ) (c n m : ℕ) → n + m ≡ c → (p b q end : Place) (ks : List (List ℕ)) (ts : Elements)
+    → names_at n p ≡ Some (ks, b) → skip m b ≡ Some q → elements_by read n q ≡ Some (ts, end) → is_clean (members_found (members ks ts)) ≡ true
+    → (r : Option Place) → behind_key k n p ≡ r → Outcome c r (lookup k (pairs_in (members ks ts)))
+unfolding names_at elements_by behind_key
+walk_finds k c zero m total p b q end ks ts en es ee clean r er =
+    let none : ks ≡ [] = ap (λ (o : List (List ℕ) × Place). o.0) (some_is (ks, b) ([], p) (sym en)) in
+    subst (λ (l : List (List ℕ)). Outcome c r (lookup k (pairs_in (members l ts)))) (sym none) (subst (λ (r : Option Place). Outcome c r None) er refl)
+walk_finds k c (suc n) m total p b q end ks ts en es ee clean r er =
+    let x = bind_some (item_at p) (λ x. names_at n x.1 >>= λ ks. Some (x.0.piece ∷ ks.0, ks.1)) (ks, b) en in
+    let l = bind_some (names_at n x.0.1) (λ ks. some (x.0.0.piece ∷ ks.0, ks.1)) (ks, b) x.2 in
+    let y = bind_some (item_at q) (λ y. item_tree q.at y.0 >>= λ t. elements_by read n y.1 >>= λ ts. Some (element t ts.0, ts.1)) (ts, end) ee in
+    let t = bind_some (item_tree q.at y.0.0) (λ t. elements_by read n y.0.1 >>= λ ts. Some (element t ts.0, ts.1)) (ts, end) y.2 in
+    let us = bind_some (elements_by read n y.0.1) (λ ts. some (element t.0 ts.0, ts.1)) (ts, end) t.2 in
+    let behind : skip m l.0.1 ≡ Some q = ap (skip m) (same_end (x.0.0.piece ∷ l.0.0) ks l.0.1 b l.2) ∙ es in
+    let on : skip (m + 1) l.0.1 ≡ Some y.0.1 = skip_plus m 1 l.0.1 q behind ∙ skip_one q y.0.1 y.0.0 y.1 in
+    one_key k c n m total p x.0.1 l.0.1 q y.0.1 x.0.0 y.0.0 l.0.0 t.0 (members ks ts) (members l.0.0 us.0.0) (same_members (x.0.0.piece ∷ l.0.0) ks l.0.1 b (element t.0 us.0.0) ts us.0.1 end l.2 us.2)
+    x.1 l.1 behind y.1 t.1 clean (walk_finds k c n (m + 1) (omega (arith, total)) x.0.1 l.0.1 y.0.1 us.0.1 l.0.0 us.0.0 l.1 on us.1) r er
+
+-- ---- the object
+
+outcome : (k : List ℕ) (c : ℕ) (p : Place) → IsJsonTree (object_at c p) → (r : Option Place) → r ≡ behind_key k c p → Outcome c r (lookup k (pairs_of (or_null (object_at c p))))
+unfolding skip
+outcome k c p json r er =
+    let o = holds c p json in
+    let clean : is_clean (tree_found (object (members o.names o.trees))) ≡ true = subst IsJsonTree o.tree json in
+    let names = (keys_names c None p (o.names, o.behind) o.keys_are).0 in
+    let found = walk_finds k c c 0 (omega arith) p o.behind o.behind o.end o.names o.trees names refl o.values_are clean r (sym er) in
+    subst (λ (ps : List (List ℕ × Tree)). Outcome c r (lookup k ps)) (sym (pairs_are c p json)) found
+
+module _ (k : List ℕ) (c : ℕ) (p : Place) (json : IsJsonTree (object_at c p)) where
+  pub no_value : None ≡ behind_key k c p → None ≡ lookup k (pairs_of (or_null (object_at c p)))
+  no_value e = sym (outcome k c p json None e)
+
+  module _ (a : Place) (e : Some a ≡ behind_key k c p) where
+    pub found : IsFound c a (lookup k (pairs_of (or_null (object_at c p))))
+    found = outcome k c p json (Some a) e
+
+    pub some_members : 0 < c
+    unfolding behind_key
+    some_members = go c refl
+      where
+        go : (n : ℕ) → c ≡ n → 0 < c
+        go zero z = let h : ◌≡◌ {A = Option Place} (Some a) None = e ∙ ap (λ (n : ℕ). behind_key k n p) z in absurd cc
+        go (suc n) z = omega (arith, z)
+
+    pub passes_keys : None ≡ skip (c - 1) a → ⊥
+    passes_keys h = let no : ◌≡◌ {A = Option Place} None (Some found.value) = h ∙ found.passed in cc
+
+    module _ (v : Place) (f : Some v ≡ skip (c - 1) a) where
+      at_value : found.value ≡ v
+      at_value = some_is found.value v (sym found.passed ∙ sym f)
+
+      pub value_goes_on : None ≡ item_at v → ⊥
+      value_goes_on h = let no : ◌≡◌ {A = Option (Item × Place)} None (Some (found.item, found.after)) = h ∙ ap item_at (sym at_value) ∙ found.here in cc
+
+      module _ (y : Item) (w : Place) (h : Some (y, w) ≡ item_at v) where
+        value_item : found.item ≡ y
+        value_item = ap (λ (o : Item × Place). o.0) (some_is (found.item, found.after) (y, w) (sym found.here ∙ ap item_at at_value ∙ sym h))
+
+        value_tree : item_tree v.at y ≡ Some found.tree
+        value_tree = ap (λ (q : Place). item_tree q.at y) (sym at_value) ∙ ap (item_tree found.value.at) (sym value_item) ∙ found.stands
+
+        pub value_stands : IsJsonTree (item_tree v.at y)
+        value_stands = subst IsJsonTree (sym value_tree) found.clean
+
+        pub value_is : item_tree v.at y ≡ lookup k (pairs_of (or_null (object_at c p)))
+        value_is = value_tree ∙ sym found.wanted_is

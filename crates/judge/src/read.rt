@@ -1,0 +1,99 @@
+//! The values of keywords, read.
+
+ghost use Rattle.std.specs.Prelude.{◌≡◌, ◌↔◌, Some, IsSome, IsSomeAnd, MatchOption, MatchResult};
+ghost use Rattle.json_model.specs.Parts.{as_array, as_number};
+ghost use Rattle.json_traits.specs.declared.types.json_type.JsonType.{JsonType};
+ghost use Rattle.judge.specs.Passes.{IsBadForm, IsBoundOf, IsLimit, IsSetOf, IsSetOfList};
+ghost use Rattle.judge.specs.Validity.{AreTypeNames, HasForm, IsCount};
+ghost use Rattle.judge.specs.Verdict.{IsNameOf};
+ghost use Rattle.judge.specs.declared.keyword.Keyword.TheVariants as keywords;
+
+use crate::count::Count;
+use crate::errors::KeywordError;
+use json_semantics::numeric_check::{BoundOp, CompiledBound, compile_bound};
+use json_traits::types::{JsonType, JsonTypeSet};
+use json_traits::{Array, JsonNumber, Node};
+
+/// The type that a string names.
+fn read_type<'a, N: Node<'a>>(value: &N) -> Option<JsonType>
+    ensures { (t : JsonType) → (result ≡ Some t) ↔ IsNameOf t (N.tree value.now) }
+{
+    match value.as_string()?.parse::<JsonType>() {
+        Ok(json_type) => Some(json_type),
+        Err(()) => None,
+    }
+}
+
+/// The set of the types that a list names: at least one, and none twice.
+fn read_type_list<'a, N: Node<'a>>(value: &N) -> Option<JsonTypeSet>
+    ensures { MatchOption result
+        (IsSomeAnd (as_array (N.tree value.now)) AreTypeNames → ⊥)
+        (IsSetOfList (N.tree value.now)) }
+{
+    let list = value.as_array()?;
+    if list.len() == 0 {
+        return None;
+    }
+    let mut set = JsonTypeSet::empty();
+    for element in list.elements() {
+        let Some(json_type) = read_type(&element) else {
+            return None;
+        };
+        if set.contains(json_type) {
+            return None;
+        }
+        set = set.insert(json_type);
+    }
+    Some(set)
+}
+
+/// The set of the types that the value of `type` names, alone or in a list.
+pub(crate) fn read_types<'a, N: Node<'a>>(
+    value: &N,
+    member: usize,
+) -> Result<JsonTypeSet, KeywordError>
+    ensures { MatchResult result
+        (λ set. HasForm keywords.«Type» (N.tree value.now) × IsSetOf (N.tree value.now) set)
+        (IsBadForm member (HasForm keywords.«Type» (N.tree value.now))) }
+{
+    if let Some(json_type) = read_type(value) {
+        return Ok(JsonTypeSet::from(json_type));
+    }
+    match read_type_list(value) {
+        Some(set) => Ok(set),
+        None => Err(KeywordError::BadKeyword { member }),
+    }
+}
+
+/// The bound that a number sets.
+#[tactic(auto, using(json_model::proofs::KindLaws::number_some, json_model::proofs::KindLaws::number_none, crate::proofs::BoundLaws::is_bound))]
+pub(crate) fn read_bound<'a, N: Node<'a>>(
+    op: BoundOp,
+    value: &N,
+    member: usize,
+) -> Result<CompiledBound, KeywordError>
+    ensures { MatchResult result
+        (λ bound. IsSomeAnd (as_number (N.tree value.now)) (IsBoundOf op bound))
+        (IsBadForm member (IsSome (as_number (N.tree value.now)))) }
+{
+    match value.as_number() {
+        Some(number) => Ok(compile_bound(op, &number.to_number())),
+        None => Err(KeywordError::BadKeyword { member }),
+    }
+}
+
+/// The least count that a number sets.
+#[tactic(auto, using(json_model::proofs::KindLaws::number_some, json_model::proofs::KindLaws::number_none))]
+pub(crate) fn read_count<'a, N: Node<'a>>(value: &N, member: usize) -> Result<Count, KeywordError>
+    ensures { MatchResult result
+        (λ count. IsSomeAnd (as_number (N.tree value.now)) (λ m. IsCount m × IsLimit count m))
+        (IsBadForm member (IsSomeAnd (as_number (N.tree value.now)) IsCount)) }
+{
+    let Some(number) = value.as_number() else {
+        return Err(KeywordError::BadKeyword { member });
+    };
+    match Count::of_number(&number.to_number()) {
+        Some(count) => Ok(count),
+        None => Err(KeywordError::BadKeyword { member }),
+    }
+}

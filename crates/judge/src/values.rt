@@ -1,0 +1,26 @@
+//! The verdict on two values in memory.
+
+ghost use Rattle.std.specs.Prelude.{◌≡◌, ◌⊎◌, Err};
+ghost use Rattle.json_exact.specs.Trees.{tree};
+ghost use Rattle.judge.specs.Right.{RightOnTrees};
+
+use crate::checks::Checks;
+use crate::errors::KeywordError;
+use json_exact::{OutOfMemory, Value};
+use json_semantics::ValueNode;
+use std::alloc::Global;
+
+/// Whether the document is valid under the keyword object, by JSON Schema 2020-12. It takes memory for the names that
+/// `required` lists alone.
+pub fn judge_values(alloc: Global, keywords: &Value, document: &Value) -> Result<bool, KeywordError>
+    ensures { (result ≡ Err KeywordError.OutOfMemory) ⊎ RightOnTrees (tree keywords.now) (tree document.now) result }
+{
+    let checks = match Checks::compile(alloc, &ValueNode::new(keywords)) {
+        Ok(checks) => checks,
+        Err(error) => return Err(error),
+    };
+    match checks.check(alloc, &ValueNode::new(document)) {
+        Ok(valid) => Ok(valid),
+        Err(OutOfMemory) => Err(KeywordError::OutOfMemory),
+    }
+}

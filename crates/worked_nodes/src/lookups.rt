@@ -1,0 +1,131 @@
+//! Look-ups by key and string nodes, over both representations.
+
+use json_exact::{Map, OutOfMemory, Value};
+use json_semantics::{SerdeJson, ValueNode};
+use json_traits::{HasName, Json, Node, Object};
+use jsonb::Jsonb;
+use jsonb::encode::decode_hex;
+use std::alloc::Global;
+use std::test::Fail;
+
+/// The object whose members are the keys, each with itself for its value.
+fn keys_as_values(alloc: Global, keys: &[&str]) -> Option<Value> {
+    let mut members = Map::new(alloc);
+    for text in keys {
+        let key = String::from_str(alloc, text).ok()?;
+        let value = Value::String(String::from_str(alloc, text).ok()?);
+        members.insert(key, value).ok()?;
+    }
+    Some(Value::Object(members))
+}
+
+/// The strings under a key, as a prepared key and as a name finds them.
+fn found_under<'a, F, O>(
+    alloc: Global,
+    object: O,
+    name: &str,
+) -> Result<(Option<&'a str>, Option<&'a str>), OutOfMemory>
+where
+    F: Json<'a>,
+    O: Object<'a, Node = F::Node, Key = F::PreparedKey>,
+{
+    let key = F::prepare_key(alloc, name)?;
+    Ok((
+        string_of(object.get(&key)),
+        string_of(object.get_named(name)),
+    ))
+}
+
+/// The text of the string that a value is, if there is a value and it is one.
+fn string_of<'a, N: Node<'a>>(value: Option<N>) -> Option<&'a str> {
+    value?.as_string()
+}
+
+#[test]
+fn members_are_looked_up_by_key(rt: HostRuntime) -> Result<(), Fail> {
+    let alloc = rt.alloc();
+    let rows: [(&[&str], &str, &str); 6] = [
+        (&[], "", "00000020"),
+        (&[""], "a", "010000200000008000000000"),
+        (
+            &["a", "ab", "abc"],
+            "ac",
+            "03000020010000800200000003000000010000000200000003000000616162616263616162616263",
+        ),
+        (
+            &["aa", "ab", "bb"],
+            "ba",
+            "03000020020000800200000002000000020000000200000002000000616161626262616161626262",
+        ),
+        (
+            &["é", "ñ"],
+            "è",
+            "0200002002000080020000000200000002000000c3a9c3b1c3a9c3b1",
+        ),
+        (
+            &["", "a", "b", "ab", "é", "aéb"],
+            "éa",
+            "0600002000000080010000000100000002000000020000000400000000000000010000000100000002000000020000000400000061626162c3a961c3a96261626162c3a961c3a962",
+        ),
+    ];
+    for (keys, absent, slice) in &rows {
+        let bytes = decode_hex(alloc, slice)?;
+        let in_slice = Jsonb::root(alloc, &bytes)?.as_object().ok_or("an object")?;
+        let value = keys_as_values(alloc, keys).ok_or("memory")?;
+        let in_memory = ValueNode::new(&value).as_object().ok_or("an object")?;
+        for key in *keys {
+            let found = (Some(*key), Some(*key));
+            assert_eq!(rt;
+                found_under::<Jsonb, _>(alloc, in_slice, key)?,
+                found,
+                "at {slice}"
+            );
+            assert_eq!(rt;
+                found_under::<SerdeJson, _>(alloc, in_memory, key)?,
+                found,
+                "at {slice}"
+            );
+        }
+        let none = (None, None);
+        assert_eq!(rt;
+            found_under::<Jsonb, _>(alloc, in_slice, absent)?,
+            none,
+            "at {slice}"
+        );
+        assert_eq!(rt;
+            found_under::<SerdeJson, _>(alloc, in_memory, absent)?,
+            none,
+            "at {slice}"
+        );
+    }
+    Ok(())
+}
+
+/// How many code points a string has, counted at its node.
+fn node_length<'a, F: Json<'a>>(
+    alloc: Global,
+    buffer: &'a mut F::StringBuffer,
+    string: &str,
+) -> Result<Option<u64>, OutOfMemory> {
+    Ok(F::string_node(alloc, buffer, string)?.string_length())
+}
+
+#[test]
+fn a_string_is_a_node(rt: HostRuntime) -> Result<(), Fail> {
+    let alloc = rt.alloc();
+    let mut bytes = Jsonb::string_buffer(alloc);
+    let mut value = SerdeJson::string_buffer(alloc);
+    for (string, length) in [("", 0), ("héllo", 5), ("é", 1)] {
+        assert_eq!(rt;
+            node_length::<Jsonb>(alloc, &mut bytes, string)?,
+            Some(length),
+            "{string}"
+        );
+        assert_eq!(rt;
+            node_length::<SerdeJson>(alloc, &mut value, string)?,
+            Some(length),
+            "{string}"
+        );
+    }
+    Ok(())
+}

@@ -71,7 +71,7 @@ pub record TreeRun (p q : Place) (ts : Elements) (n : ℕ) : Type 0 where
   pub trees : AreElements ts p.at items
   pub count : length items ≡ n
 
-elements_take : (inside : List ℕ → Option Tree) → Takes inside → (n : ℕ) (p : Place) (r : Elements × Place) → Fit p → elements_by inside n p ≡ Some r → TreeRun p r.1 r.0 n
+pub elements_take : (inside : List ℕ → Option Tree) → Takes inside → (n : ℕ) (p : Place) (r : Elements × Place) → Fit p → elements_by inside n p ≡ Some r → TreeRun p r.1 r.0 n
 unfolding elements_by
 elements_take inside ok zero p r fit e =
     subst (λ (y : Elements × Place). TreeRun p y.1 y.0 0) (some_is (no_elements, p) r e) (record { items = []; run = Run-nil p; fit = fit; trees = tt; count = refl })

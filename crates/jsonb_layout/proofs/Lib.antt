@@ -12,3 +12,10 @@ pub mod Cuts
 pub mod Sizes
 pub mod Unrolled
 pub mod Shapes
+pub mod SeatRuns
+pub mod OneLayout
+pub mod Extents
+pub mod SeatLaws
+pub mod SeatTrees
+pub mod SeatPlaces
+pub mod SeatBytes

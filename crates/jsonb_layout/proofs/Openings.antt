@@ -133,7 +133,7 @@ pub length-words : (ns : List ℕ) → length (words ns) ≡ 4 * length ns
 length-words [] = refl
 length-words (n ∷ ns) = omega (arith, length-words ns, length-append (to_le_bytes w32 n) (words ns))
 
-length-entries : (i at : ℕ) (xs : List Item) → length (entries i at xs) ≡ length xs
+pub length-entries : (i at : ℕ) (xs : List Item) → length (entries i at xs) ≡ length xs
 length-entries i at [] = refl
 length-entries i at (x ∷ xs) = ap suc (length-entries (i + 1) (at + length x.piece) xs)
 
@@ -164,7 +164,7 @@ last xs = record { index = length xs; at = length (pieces xs); words = []; rest 
 pub run_over : (xs : List Item) → AllByRecursion (λ x. x.kind < 8) xs → Run (first xs) (last xs) xs
 run_over xs kinds = record { words = sym (append-nil (words (entries 0 0 xs))); rest = sym (append-nil (pieces xs)); index = omega arith; at = omega arith; kinds = kinds }
 
-count_is : (f : Form) (c n : ℕ) → HasCount f c n → (n ≡ items_in f c) × IsLone f c
+pub count_is : (f : Form) (c n : ℕ) → HasCount f c n → (n ≡ items_in f c) × IsLone f c
 count_is list c n h = (h, tt)
 count_is pairs c n h = (h, tt)
 count_is lone c n h = (h.0, h.1)

@@ -4,3 +4,5 @@ pub mod Stands
 pub mod Narrow
 pub mod Reading
 pub mod Trees
+pub mod Seats
+pub mod SeatReading

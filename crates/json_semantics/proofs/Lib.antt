@@ -3,3 +3,4 @@ pub mod NestLaws
 pub mod ValueLaws
 pub mod TextLaws
 pub mod EquivalenceLaws
+pub mod IdentityLaws

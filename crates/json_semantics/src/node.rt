@@ -9,7 +9,7 @@ use crate::object::ValueObject;
 use bytecount::num_chars;
 use json_exact::{Number, Value};
 use json_traits::types::JsonType;
-use json_traits::{HasTree, Node};
+use json_traits::{HasTree, Node, NodeIdentity};
 
 /// A JSON value that stands in memory.
 #[derive(Clone, Copy)]
@@ -38,6 +38,10 @@ impl HasTree for ValueNode<'_> {
 }
 
 impl<'a> Node<'a> for ValueNode<'a> {
+    ghost use Rattle.std.specs.Prelude.{None};
+
+    ghost identity_of = { λ _. None };
+
     type Object = ValueObject<'a>;
 
     type Array = ValueArray<'a>;
@@ -101,5 +105,15 @@ impl<'a> Node<'a> for ValueNode<'a> {
             Value::String(text) => Some(num_chars(text.as_str().as_bytes()) as u64),
             _ => None,
         }
+    }
+
+    /// None: values in memory are told apart by no place.
+    fn identity(&self) -> Option<NodeIdentity> {
+        None
+    }
+
+    #[tactic(auto, using(crate::proofs::IdentityLaws::no_identity))]
+    fn container_identity(&self) -> Option<NodeIdentity> {
+        None
     }
 }

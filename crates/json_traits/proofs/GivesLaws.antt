@@ -1,5 +1,5 @@
 -- An iterator whose state shows what is left gives just that; and what a loop over it knows.
-use Rattle.std.specs.Prelude.{◌≡◌, ℕ, ◌+◌, ◌<◌, ◌≤◌, List, [], ◌∷◌, ◌++◌, length, take, drop, slice_get, Option, Some, None}
+use Rattle.std.specs.Prelude.{◌≡◌, ℕ, ◌+◌, ◌<◌, ◌≤◌, List, [], ◌∷◌, ◌++◌, length, map, take, drop, slice_get, Option, Some, None}
 use Rattle.std.proofs.Common.{refl, suc, arith, length-drop, add-one, get_or, sym, ap, subst, ◌∙◌}
 use Rattle.std.proofs.Math.Seq.{drop-cons, take-suc}
 use Rattle.std.proofs.lemmas.Option.{slice_get-get_or}
@@ -52,3 +52,12 @@ module _ {S A B : Type 0} (view : A → B) (rest : S → List B) where
   -- an iterator whose state shows what is left gives just that
   pub gives_rest : (s : S) → Gives (YieldsFirstBy view rest) view s (rest s)
   gives_rest s = record { always = always_by (rest s) s refl }
+
+  module _ {C : Type 0} (f : B → C) (g : A → C) (same : (x : A) → g x ≡ f (view x)) where
+    always_through : (ys : List B) (s : S) → rest s ≡ ys → AlwaysYields (YieldsFirstBy view rest) g s (map f ys)
+    always_through [] s e = λ x j h. cc
+    always_through (y ∷ ys) s e = (λ j h. cc, λ x j h. let k : view x ≡ y = cc in let t : rest j ≡ ys = cc in (same x ∙ ap f k, always_through ys j t))
+
+    -- and so it gives what is made of each of them
+    pub gives_through : (s : S) → Gives (YieldsFirstBy view rest) g s (map f (rest s))
+    gives_through s = record { always = always_through (rest s) s refl }

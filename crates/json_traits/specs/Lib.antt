@@ -7,3 +7,4 @@ pub mod Numbers
 pub mod Gives
 pub mod Kinds
 pub mod Allowed
+pub mod Identities

@@ -3,8 +3,8 @@
 //! A [`Node`] is a JSON value that is read in place: a value in memory, or one in the bytes of a column. [`Object`], [`Array`] and
 //! [`JsonNumber`] are its members, its elements and its number. [`HasTree`] is the JSON tree that each of them stands for, of which
 //! all contracts speak. So code that is written once over `Node` runs on every kind of node, and is proved once. A number
-//! writes `to_number` alone: its other calls answer from that. [`Json`] is a representation: its nodes, its prepared keys, and
-//! the buffers of its string nodes.
+//! writes `to_number` alone: its other calls answer from that. A [`NodeIdentity`] tells a node from those at other places under
+//! its root, where the representation tells places apart. [`Json`] is a representation: its nodes, its prepared keys, and the buffers of its string nodes.
 //!
 //! The keyword `type` of a schema names one type, or several in an array. [`types::JsonType`] is a type, with its name;
 //! [`types::JsonTypeSet`] is a set of types, in one byte, which also says whether it allows a value.
@@ -28,8 +28,10 @@
 mod array;
 mod has_name;
 mod has_tree;
+mod identity;
 mod json;
 mod json_number;
+pub mod laws;
 mod node;
 mod object;
 #[cfg(test)]
@@ -39,6 +41,7 @@ pub mod types;
 pub use array::Array;
 pub use has_name::HasName;
 pub use has_tree::HasTree;
+pub use identity::NodeIdentity;
 pub use json::Json;
 pub use json_number::JsonNumber;
 pub use node::Node;

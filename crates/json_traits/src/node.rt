@@ -1,11 +1,14 @@
 //! `Node`: a JSON value, whatever holds it.
 
-ghost use Rattle.std.specs.Prelude.{◌≡◌, length, option_map};
+ghost use Rattle.std.specs.Prelude.{◌≡◌, length, Option, option_map};
 ghost use Rattle.json_model.specs.Parts.{as_string, as_boolean, is_null, is_number, is_string, if_object, if_array, if_number, points};
+ghost use Rattle.json_traits.specs.Identities.{if_container};
 ghost use Rattle.json_traits.specs.Kinds.{type_of};
+ghost use Rattle.json_traits.specs.declared.identity.NodeIdentity.{NodeIdentity};
 
 use crate::array::Array;
 use crate::has_tree::HasTree;
+use crate::identity::NodeIdentity;
 use crate::json_number::JsonNumber;
 use crate::object::Object;
 use crate::types::JsonType;
@@ -18,6 +21,8 @@ pub trait Node<'a>: Copy + HasTree {
     type Array: Array<'a, Node = Self>;
     /// What stands for a number.
     type Number: JsonNumber;
+
+    ghost identity_of: { Self → Option NodeIdentity };
 
     /// The object that the value is, if it is one.
     fn as_object(&self) -> Option<Self::Object>
@@ -58,4 +63,13 @@ pub trait Node<'a>: Copy + HasTree {
     /// How many code points the string has that the value is, if it is one.
     fn string_length(&self) -> Option<u64>
         ensures { result ≡ option_map (λ s. length (points s)) (as_string (Self.tree self.now)) };
+
+    /// What tells the node from those at other places under its root, where the representation has such a thing. Each
+    /// implementation says what it is.
+    fn identity(&self) -> Option<NodeIdentity>
+        ensures { result ≡ Self.identity_of self.now };
+
+    /// The identity of an array or object; none of any other value.
+    fn container_identity(&self) -> Option<NodeIdentity>
+        ensures { result ≡ if_container (Self.tree self.now) (Self.identity_of self.now) };
 }

@@ -1,3 +1,4 @@
+use crate::identity::NodeIdentity;
 use crate::json_number::JsonNumber;
 use crate::types::{JsonType, JsonTypeSet, number_is_integer};
 use json_exact::{Decimal, Number, Value};
@@ -133,4 +134,23 @@ fn numbers_are_written_through_their_trait(rt: HostRuntime) {
 #[test]
 fn values_have_types(rt: HostRuntime) {
     assert!(rt; JsonType::from(&Value::Null) == JsonType::Null);
+}
+
+#[test]
+fn identities_are_equal_where_both_numbers_are(rt: HostRuntime) {
+    let identity = NodeIdentity::tagged(7, 3);
+    let copy = identity;
+    assert!(rt; copy == identity);
+    assert!(rt; NodeIdentity::new(7) == NodeIdentity::tagged(7, 0));
+    for other in [
+        NodeIdentity::new(7),
+        NodeIdentity::tagged(8, 3),
+        NodeIdentity::tagged(3, 7),
+    ] {
+        assert!(rt; other != identity);
+    }
+    let Ok(shown) = format!(in rt.alloc(); "{identity:?}") else {
+        panic!(rt; "no memory");
+    };
+    assert_eq!(rt; shown.as_str(), "NodeIdentity { address: 7, tag: 3 }");
 }

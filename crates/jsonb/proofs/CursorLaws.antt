@@ -1,5 +1,5 @@
 -- Walking over the elements of an array.
-use Rattle.std.proofs.Common.{◌≡◌, ℕ, suc, ◌-◌, ◌<◌, List, [], ◌∷◌, Option, Some, None, refl, sym, ap, subst, ◌∙◌}
+use Rattle.std.proofs.Common.{◌≡◌, ℕ, suc, ◌-◌, ◌<◌, List, ◌∷◌, Option, Some, None, refl, sym, ap, subst, ◌∙◌}
 use Rattle.json_model.specs.Parts.{elements_of}
 use Rattle.json_model.specs.Tree.{Tree, array, Elements, element}
 use Rattle.jsonb_layout.specs.Layout.{Item}
@@ -21,7 +21,7 @@ tree_by r = r >>= λ r. Some (array r.0)
 abbrev left_by : Option (Elements × Place) → List Tree
 left_by r = elements_of (or_null (tree_by r))
 
-next_element : (n : ℕ) (p q : Place) (x : Item) → item_at p ≡ Some (x, q) → IsJsonTree (array_at (suc n) p) → NextElement n p x q
+pub next_element : (n : ℕ) (p q : Place) (x : Item) → item_at p ≡ Some (x, q) → IsJsonTree (array_at (suc n) p) → NextElement n p x q
 next_element n p q x e json = go (item_tree p.at x) refl (elements_by read n q) refl (subst (λ (r : Option (Elements × Place)). IsJsonTree (tree_by r)) made json)
   where
     made : elements_by read (suc n) p ≡ (item_tree p.at x >>= λ t. elements_by read n q >>= λ ts. Some (element t ts.0, ts.1))
@@ -43,6 +43,14 @@ next_element n p q x e json = go (item_tree p.at x) refl (elements_by read n q) 
               ∙ ap (λ (r : Option (Elements × Place)). or_null (item_tree p.at x) ∷ left_by r) (sym er);
         }
 
+-- where an element is left there is an item
+pub element_there : (n : ℕ) (p : Place) → IsJsonTree (array_at (suc n) p) → (x : Item × Place) × (item_at p ≡ Some x)
+element_there n p json = go (item_at p) refl
+  where
+    go : (r : Option (Item × Place)) → item_at p ≡ r → (x : Item × Place) × (item_at p ≡ Some x)
+    go None e = let h : IsJsonTree None = subst IsJsonTree (ap tree_by (values_none n p e)) json in absurd cc
+    go (Some x) e = (x, e)
+
 module _ (n : ℕ) (p : Place) (some_left : 0 < n) (json : IsJsonTree (array_at n p)) where
   full : IsJsonTree (array_at (suc (n - 1)) p)
   full = subst (λ (k : ℕ). IsJsonTree (array_at k p)) (sym (less_one n some_left)) json
@@ -53,10 +61,3 @@ module _ (n : ℕ) (p : Place) (some_left : 0 < n) (json : IsJsonTree (array_at 
   module _ (x : Item) (q : Place) (e : Some (x, q) ≡ item_at p) where
     pub element_is : NextElement (n - 1) p x q
     element_is = next_element (n - 1) p q x (sym e) full
-
-    pub elements_are : elements_of (or_null (array_at n p)) ≡ or_null (item_tree p.at x) ∷ elements_of (or_null (array_at (n - 1) q))
-    elements_are = ap (λ (k : ℕ). elements_of (or_null (array_at k p))) (sym (less_one n some_left)) ∙ element_is.left
-
-pub no_elements_left : (n : ℕ) (p : Place) → n ≡ 0 → elements_of (or_null (array_at n p)) ≡ []
-unfolding elements_by
-no_elements_left n p e = ap (λ (k : ℕ). elements_of (or_null (array_at k p))) e

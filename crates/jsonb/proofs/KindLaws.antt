@@ -5,6 +5,7 @@ use Rattle.std.specs.Str.{is_utf8}
 use Rattle.json_model.specs.Decimal.{Decimal}
 use Rattle.json_model.specs.Tree.{Scalar, null, boolean, number, string, Tree, scalar, array, object, Elements, Members}
 use Rattle.json_model.specs.Parts.{as_string, as_boolean, is_null, is_number, is_string, if_object, if_array, if_number}
+use Rattle.json_traits.specs.Identities.{if_container}
 use Rattle.jsonb_layout.specs.Reading.{◌>>=◌, numeric_of}
 use Rattle.jsonb_layout.specs.Trees.{read}
 use Rattle.jsonb_layout.proofs.Shapes.{read_no_scalar}
@@ -110,3 +111,13 @@ module _ (k : Kind) (b : List ℕ) (stands : IsJsonTree (value_of k b)) where
     where
       go : (t : Tree) → TreeIs kinds.Number t → true ≡ is_number t
       go t h = ap is_number (sym h.1)
+
+  pub no_container : {A : Type 0} (x : Option A) → (k ≡ kinds.Container → ⊥) → None ≡ if_container (or_null (value_of k b)) x
+  no_container x h = by_kind (λ t. if_container t x) None k _ is (λ _ _. refl) (λ _ _. refl) (λ _. refl) (λ _. refl) (λ _. refl) (λ e _. absurd (h e)) (λ e _. absurd (h e))
+
+  pub container_is : {A : Type 0} (x : Option A) → k ≡ kinds.Container → x ≡ if_container (or_null (value_of k b)) x
+  container_is {A = A} x e = go (or_null (value_of k b)) (subst (λ (j : Kind). TreeIs j (or_null (value_of k b))) e is)
+    where
+      go : (t : Tree) → TreeIs kinds.Container t → x ≡ if_container t x
+      go t (inl h) = ap (λ (u : Tree). if_container {A = A} u x) (sym h.1)
+      go t (inr h) = ap (λ (u : Tree). if_container {A = A} u x) (sym h.1)

@@ -18,3 +18,6 @@ pub mod TypeLaws
 pub mod CursorLaws
 pub mod RiseLaws
 pub mod LookupLaws
+pub mod SeatTrees
+pub mod SeatHolds
+pub mod PlaceLaws

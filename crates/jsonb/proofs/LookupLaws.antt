@@ -5,15 +5,23 @@ use Rattle.json_model.specs.Parts.{pairs_in, pairs_of, lookup}
 use Rattle.json_model.specs.Tree.{Tree, object, Elements, element, Members, member}
 use Rattle.jsonb_layout.specs.Layout.{Item}
 use Rattle.jsonb_layout.specs.Reading.{◌>>=◌, Place, item_at}
+use Rattle.jsonb_layout.specs.SeatReading.{seat_at}
+use Rattle.jsonb_layout.specs.Seats.{Seat}
 use Rattle.jsonb_layout.specs.Trees.{elements_by, members, read, item_tree}
 use Rattle.jsonb_layout.proofs.Tools.{bind_some, some_is}
 use Rattle.jsonb.specs.Found.{text_found, tree_found, members_found, both}
 use Rattle.jsonb.specs.Lookup.{behind_key}
+use Rattle.jsonb.specs.Seated.{member_seats}
 use Rattle.jsonb.specs.Values.{or_null, is_clean, IsJsonTree, object_at, names_at, skip}
 use Rattle.jsonb.proofs.MemberLaws.{holds, pairs_are, keys_names, both_clean}
+use Rattle.jsonb.proofs.SeatHolds.{seats_behind, seats_behind_is}
+use Rattle.jsonb.proofs.SeatTrees.{members_step}
 
 abbrev some : {A : Type 0} → A → Option A
 some x = Some x
+
+abbrev pub some_seat : Seat → Option Seat
+some_seat s = Some s
 
 -- ---- the walk over the keys
 
@@ -66,7 +74,7 @@ names_skip (suc n) p r e =
 -- ---- what is found
 
 -- so many items behind a place there is a value, and it is what is looked for
-pub record IsFound (c : ℕ) (a : Place) (wanted : Option Tree) : Type 0 where
+pub record IsFound (s c : ℕ) (a : Place) (wanted : Option Tree) (seat : Option Seat) : Type 0 where
   pub value : Place
   pub item : Item
   pub after : Place
@@ -76,12 +84,13 @@ pub record IsFound (c : ℕ) (a : Place) (wanted : Option Tree) : Type 0 where
   pub stands : item_tree value.at item ≡ Some tree
   pub clean : is_clean (tree_found tree) ≡ true
   pub wanted_is : wanted ≡ Some tree
+  pub seat_is : seat ≡ Some (seat_at s value item)
 
-abbrev pub Outcome : ℕ → Option Place → Option Tree → Type 0
-Outcome c None wanted = wanted ≡ None
-Outcome c (Some a) wanted = IsFound c a wanted
+abbrev pub Outcome : ℕ → ℕ → Option Place → Option Tree → Option Seat → Type 0
+Outcome s c None wanted seat = (wanted ≡ None) × (seat ≡ None)
+Outcome s c (Some a) wanted seat = IsFound s c a wanted seat
 
-module _ (k : List ℕ) (c n m : ℕ) (total : suc n + m ≡ c) (p p' b q q' : Place) (x y : Item) (ks : List (List ℕ)) (t : Tree) (all more : Members) (all_is : all ≡ member x.piece t more) where
+module _ (k : List ℕ) (s c n m : ℕ) (total : suc n + m ≡ c) (p p' b q q' : Place) (x y : Item) (ks : List (List ℕ)) (t : Tree) (all more : Members) (all_is : all ≡ member x.piece t more) where
   walk_on : item_at p ≡ Some (x, p') → behind_key k (suc n) p ≡ cond (bytes_eq k x.piece) (Some p') (behind_key k n p')
   unfolding behind_key
   walk_on e = rw e refl
@@ -93,11 +102,13 @@ module _ (k : List ℕ) (c n m : ℕ) (total : suc n + m ≡ c) (p p' b q q' : P
 
   -- the first key is the key, or the rest of the walk decides
   one_key : item_at p ≡ Some (x, p') → names_at n p' ≡ Some (ks, b) → skip m b ≡ Some q → item_at q ≡ Some (y, q') → item_tree q.at y ≡ Some t → is_clean (members_found all) ≡ true
-      → (is_clean (members_found more) ≡ true → (r : Option Place) → behind_key k n p' ≡ r → Outcome c r (lookup k (pairs_in more)))
-      → (r : Option Place) → behind_key k (suc n) p ≡ r → Outcome c r (lookup k (pairs_in all))
-  one_key ex en es ey et clean rest r er = subst (λ (ms : Members). Outcome c r (lookup k (pairs_in ms))) (sym all_is) (go (bytes_eq k x.piece) r (sym (walk_on ex) ∙ er))
+      → (is_clean (members_found more) ≡ true → (r : Option Place) → behind_key k n p' ≡ r → Outcome s c r (lookup k (pairs_in more)) (lookup k (member_seats s n p' q')))
+      → (r : Option Place) → behind_key k (suc n) p ≡ r → Outcome s c r (lookup k (pairs_in all)) (lookup k (member_seats s (suc n) p q))
+  one_key ex en es ey et clean rest r er =
+      subst (λ (ms : Members). Outcome s c r (lookup k (pairs_in ms)) (lookup k (member_seats s (suc n) p q))) (sym all_is)
+      (subst (λ (ss : List (List ℕ × Seat)). Outcome s c r (lookup k (pairs_in (member x.piece t more))) (lookup k ss)) (sym (members_step s n p p' q q' x y ex ey)) (go (bytes_eq k x.piece) r (sym (walk_on ex) ∙ er)))
     where
-      here : IsFound c p' (Some t)
+      here : IsFound s c p' (Some t) (Some (seat_at s q y))
       here =
           let less : c - 1 ≡ n + m = omega (arith, total) in
           record {
@@ -110,10 +121,11 @@ module _ (k : List ℕ) (c n m : ℕ) (total : suc n + m ≡ c) (p p' b q q' : P
             stands = et;
             clean = (parts clean).0;
             wanted_is = refl;
+            seat_is = refl;
           }
 
-      go : (same : Bool) (r : Option Place) → cond same (Some p') (behind_key k n p') ≡ r → Outcome c r (cond same (Some t) (lookup k (pairs_in more)))
-      go true r e = subst (λ (r : Option Place). Outcome c r (Some t)) e here
+      go : (same : Bool) (r : Option Place) → cond same (Some p') (behind_key k n p') ≡ r → Outcome s c r (cond same (Some t) (lookup k (pairs_in more))) (cond same (Some (seat_at s q y)) (lookup k (member_seats s n p' q')))
+      go true r e = subst (λ (r : Option Place). Outcome s c r (Some t) (Some (seat_at s q y))) e here
       go false r e = rest (parts clean).1 r e
 
 same_end : (l l' : List (List ℕ)) (b b' : Place) → some {A = List (List ℕ) × Place} (l, b) ≡ some (l', b') → b ≡ b'
@@ -125,14 +137,14 @@ same_members l l' b b' ts ts' e e' f g =
     ∙ ap (λ (a : Elements). members l a) (ap (λ (o : Elements × Place). o.0) (some_is (ts', e') (ts, e) (sym g)))
 
 -- the walk over the keys finds what stands under the key, or shows that nothing does
-walk_finds : (k : List ℕ) (c n m : ℕ) → n + m ≡ c → (p b q end : Place) (ks : List (List ℕ)) (ts : Elements)
+walk_finds : (k : List ℕ) (s c n m : ℕ) → n + m ≡ c → (p b q end : Place) (ks : List (List ℕ)) (ts : Elements)
     → names_at n p ≡ Some (ks, b) → skip m b ≡ Some q → elements_by read n q ≡ Some (ts, end) → is_clean (members_found (members ks ts)) ≡ true
-    → (r : Option Place) → behind_key k n p ≡ r → Outcome c r (lookup k (pairs_in (members ks ts)))
-unfolding names_at elements_by behind_key
-walk_finds k c zero m total p b q end ks ts en es ee clean r er =
+    → (r : Option Place) → behind_key k n p ≡ r → Outcome s c r (lookup k (pairs_in (members ks ts))) (lookup k (member_seats s n p q))
+unfolding names_at elements_by behind_key member_seats
+walk_finds k s c zero m total p b q end ks ts en es ee clean r er =
     let none : ks ≡ [] = ap (λ (o : List (List ℕ) × Place). o.0) (some_is (ks, b) ([], p) (sym en)) in
-    subst (λ (l : List (List ℕ)). Outcome c r (lookup k (pairs_in (members l ts)))) (sym none) (subst (λ (r : Option Place). Outcome c r None) er refl)
-walk_finds k c (suc n) m total p b q end ks ts en es ee clean r er =
+    subst (λ (l : List (List ℕ)). Outcome s c r (lookup k (pairs_in (members l ts))) None) (sym none) (subst (λ (r : Option Place). Outcome s c r None None) er (refl, refl))
+walk_finds k s c (suc n) m total p b q end ks ts en es ee clean r er =
     let x = bind_some (item_at p) (λ x. names_at n x.1 >>= λ ks. Some (x.0.piece ∷ ks.0, ks.1)) (ks, b) en in
     let l = bind_some (names_at n x.0.1) (λ ks. some (x.0.0.piece ∷ ks.0, ks.1)) (ks, b) x.2 in
     let y = bind_some (item_at q) (λ y. item_tree q.at y.0 >>= λ t. elements_by read n y.1 >>= λ ts. Some (element t ts.0, ts.1)) (ts, end) ee in
@@ -140,27 +152,31 @@ walk_finds k c (suc n) m total p b q end ks ts en es ee clean r er =
     let us = bind_some (elements_by read n y.0.1) (λ ts. some (element t.0 ts.0, ts.1)) (ts, end) t.2 in
     let behind : skip m l.0.1 ≡ Some q = ap (skip m) (same_end (x.0.0.piece ∷ l.0.0) ks l.0.1 b l.2) ∙ es in
     let on : skip (m + 1) l.0.1 ≡ Some y.0.1 = skip_plus m 1 l.0.1 q behind ∙ skip_one q y.0.1 y.0.0 y.1 in
-    one_key k c n m total p x.0.1 l.0.1 q y.0.1 x.0.0 y.0.0 l.0.0 t.0 (members ks ts) (members l.0.0 us.0.0) (same_members (x.0.0.piece ∷ l.0.0) ks l.0.1 b (element t.0 us.0.0) ts us.0.1 end l.2 us.2)
-    x.1 l.1 behind y.1 t.1 clean (walk_finds k c n (m + 1) (omega (arith, total)) x.0.1 l.0.1 y.0.1 us.0.1 l.0.0 us.0.0 l.1 on us.1) r er
+    one_key k s c n m total p x.0.1 l.0.1 q y.0.1 x.0.0 y.0.0 l.0.0 t.0 (members ks ts) (members l.0.0 us.0.0) (same_members (x.0.0.piece ∷ l.0.0) ks l.0.1 b (element t.0 us.0.0) ts us.0.1 end l.2 us.2)
+    x.1 l.1 behind y.1 t.1 clean (walk_finds k s c n (m + 1) (omega (arith, total)) x.0.1 l.0.1 y.0.1 us.0.1 l.0.0 us.0.0 l.1 on us.1) r er
 
 -- ---- the object
 
-outcome : (k : List ℕ) (c : ℕ) (p : Place) → IsJsonTree (object_at c p) → (r : Option Place) → r ≡ behind_key k c p → Outcome c r (lookup k (pairs_of (or_null (object_at c p))))
+outcome : (k : List ℕ) (s c : ℕ) (p : Place) → IsJsonTree (object_at c p) → (r : Option Place) → r ≡ behind_key k c p → Outcome s c r (lookup k (pairs_of (or_null (object_at c p)))) (lookup k (seats_behind s c p))
 unfolding skip
-outcome k c p json r er =
+outcome k s c p json r er =
     let o = holds c p json in
     let clean : is_clean (tree_found (object (members o.names o.trees))) ≡ true = subst IsJsonTree o.tree json in
-    let names = (keys_names c None p (o.names, o.behind) o.keys_are).0 in
-    let found = walk_finds k c c 0 (omega arith) p o.behind o.behind o.end o.names o.trees names refl o.values_are clean r (sym er) in
-    subst (λ (ps : List (List ℕ × Tree)). Outcome c r (lookup k ps)) (sym (pairs_are c p json)) found
+    let n = keys_names c None p (o.names, o.behind) o.keys_are in
+    let found = walk_finds k s c c 0 (omega arith) p o.behind o.behind o.end o.names o.trees n.0 refl o.values_are clean r (sym er) in
+    subst (λ (ss : List (List ℕ × Seat)). Outcome s c r (lookup k (pairs_of (or_null (object_at c p)))) (lookup k ss)) (seats_behind_is s c p o.behind (sym n.1))
+    (subst (λ (ps : List (List ℕ × Tree)). Outcome s c r (lookup k ps) (lookup k (member_seats s c p o.behind))) (sym (pairs_are c p json)) found)
 
-module _ (k : List ℕ) (c : ℕ) (p : Place) (json : IsJsonTree (object_at c p)) where
+module _ (k : List ℕ) (s c : ℕ) (p : Place) (json : IsJsonTree (object_at c p)) where
   pub no_value : None ≡ behind_key k c p → None ≡ lookup k (pairs_of (or_null (object_at c p)))
-  no_value e = sym (outcome k c p json None e)
+  no_value e = sym (outcome k s c p json None e).0
+
+  pub no_seat : None ≡ behind_key k c p → None ≡ lookup k (seats_behind s c p)
+  no_seat e = sym (outcome k s c p json None e).1
 
   module _ (a : Place) (e : Some a ≡ behind_key k c p) where
-    pub found : IsFound c a (lookup k (pairs_of (or_null (object_at c p))))
-    found = outcome k c p json (Some a) e
+    pub found : IsFound s c a (lookup k (pairs_of (or_null (object_at c p)))) (lookup k (seats_behind s c p))
+    found = outcome k s c p json (Some a) e
 
     pub some_members : 0 < c
     unfolding behind_key
@@ -192,3 +208,6 @@ module _ (k : List ℕ) (c : ℕ) (p : Place) (json : IsJsonTree (object_at c p)
 
         pub value_is : item_tree v.at y ≡ lookup k (pairs_of (or_null (object_at c p)))
         value_is = value_tree ∙ sym found.wanted_is
+
+        pub value_seat : Some (seat_at s v y) ≡ lookup k (seats_behind s c p)
+        value_seat = ap (λ (q : Place). some (seat_at s q y)) (sym at_value) ∙ ap (λ (z : Item). some (seat_at s found.value z)) (sym value_item) ∙ sym found.seat_is

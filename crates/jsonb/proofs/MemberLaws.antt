@@ -3,12 +3,9 @@ use Rattle.std.proofs.Common.{◌≡◌, ℕ, zero, suc, ◌+◌, ◌-◌, ◌<�
 use Rattle.std.specs.Prelude.{IsTrue, ◌↔◌, option_map, ◌&&◌, not, ◌||◌, false}
 use Rattle.std.proofs.lemmas.Bool.{eqb-true}
 use Rattle.std.specs.Str.{is_utf8}
-use Rattle.std.specs.Iterator.{YieldsFirstBy}
 use Rattle.json_model.specs.Keys.{rises}
 use Rattle.json_model.specs.Parts.{pairs_in, pairs_of, trees_in, elements_of, if_object, if_array}
 use Rattle.json_model.specs.Tree.{Tree, array, object, Elements, no_elements, element, Members}
-use Rattle.json_traits.specs.Gives.{Gives}
-use Rattle.json_traits.proofs.GivesLaws.{gives_rest}
 use Rattle.jsonb_layout.specs.Layout.{Item, Form, list, pairs, lone}
 use Rattle.jsonb_layout.specs.Reading.{◌>>=◌, only_if, Place, item_at, follows, keys_at, opened, ended}
 use Rattle.jsonb_layout.specs.Trees.{elements_by, members, held_by, read, item_tree}
@@ -19,9 +16,7 @@ use Rattle.jsonb_layout.proofs.Tools.{guard, bind_some, some_is}
 use Rattle.jsonb_layout.proofs.Unrolled.{read_unroll}
 use Rattle.jsonb.specs.Found.{both, text_found, tree_found, members_found}
 use Rattle.jsonb.specs.Values.{or_null, is_clean, IsJsonTree, array_at, object_at, names_at, members_at, AreJsonMembers, or_no_pairs, pairs_at, skip}
-use Rattle.jsonb.specs.Nodes.{members_left, member_pair}
 use Rattle.jsonb.specs.declared.found.Found.{Found}
-use Rattle.jsonb.specs.declared.members.JsonbMembers.{JsonbMembers}
 use Rattle.jsonb.proofs.KindLaws.{text_clean}
 
 abbrev some : Tree → Option Tree
@@ -287,7 +282,7 @@ both_none : (a : Option (List (List ℕ) × Place)) → both_of a None ≡ None
 both_none None = refl
 both_none (Some k) = refl
 
-next_member : (n : ℕ) (p p' q q' : Place) (x y : Item) → item_at p ≡ Some (x, p') → item_at q ≡ Some (y, q') → AreJsonMembers (members_at (suc n) p q) → NextMember n p q x y p' q'
+pub next_member : (n : ℕ) (p p' q q' : Place) (x y : Item) → item_at p ≡ Some (x, p') → item_at q ≡ Some (y, q') → AreJsonMembers (members_at (suc n) p q) → NextMember n p q x y p' q'
 next_member n p p' q q' x y e f json = go (names_at n p') refl (item_tree q.at y) refl (elements_by read n q') refl (subst AreJsonMembers made json)
   where
     made : members_at (suc n) p q ≡ both_of (names_at n p' >>= λ ks. Some (x.piece ∷ ks.0, ks.1)) (item_tree q.at y >>= λ t. elements_by read n q' >>= λ ts. Some (element t ts.0, ts.1))
@@ -318,6 +313,15 @@ next_member n p p' q q' x y e f json = go (names_at n p') refl (item_tree q.at y
         or_none : Option Members → List (List ℕ × Tree)
         or_none r = or_no_pairs (r >>= λ ms. some_list (pairs_in ms))
 
+-- where a member is left there are items for its key and value
+pub member_there : (n : ℕ) (p q : Place) → AreJsonMembers (members_at (suc n) p q) → (x : Item × Place) × (item_at p ≡ Some x) × ((y : Item × Place) × (item_at q ≡ Some y))
+member_there n p q json = go (item_at p) refl (item_at q) refl
+  where
+    go : (a : Option (Item × Place)) → item_at p ≡ a → (b : Option (Item × Place)) → item_at q ≡ b → (x : Item × Place) × (item_at p ≡ Some x) × ((y : Item × Place) × (item_at q ≡ Some y))
+    go None e b f = let h : AreJsonMembers None = subst AreJsonMembers (ap (λ (a : Option (List (List ℕ) × Place)). both_of a (elements_by read (suc n) q)) (names_none n p e)) json in absurd cc
+    go (Some x) e None f = let h : AreJsonMembers None = subst AreJsonMembers (ap (both_of (names_at (suc n) p)) (values_none n q f) ∙ both_none (names_at (suc n) p)) json in absurd cc
+    go (Some x) e (Some y) f = (x, e, (y, f))
+
 module _ (n : ℕ) (p q : Place) (some_left : 0 < n) (json : AreJsonMembers (members_at n p q)) where
   full : AreJsonMembers (members_at (suc (n - 1)) p q)
   full = subst (λ (k : ℕ). AreJsonMembers (members_at k p q)) (sym (less_one n some_left)) json
@@ -333,14 +337,3 @@ module _ (n : ℕ) (p q : Place) (some_left : 0 < n) (json : AreJsonMembers (mem
   module _ (x y : Item) (p' q' : Place) (e : Some (x, p') ≡ item_at p) (f : Some (y, q') ≡ item_at q) where
     pub member_is : NextMember (n - 1) p q x y p' q'
     member_is = next_member (n - 1) p p' q q' x y (sym e) (sym f) full
-
-    pub member_pairs : pairs_at n p q ≡ (x.piece, or_null (item_tree q.at y)) ∷ pairs_at (n - 1) p' q'
-    member_pairs = ap (λ (k : ℕ). pairs_at k p q) (sym (less_one n some_left)) ∙ member_is.pairs
-
-pub no_pairs : (n : ℕ) (p q : Place) → n ≡ 0 → pairs_at n p q ≡ []
-unfolding names_at elements_by
-no_pairs n p q e = ap (λ (k : ℕ). pairs_at k p q) e
-
--- the members that are left are what the iterator gives
-pub members_given : (m : JsonbMembers) (ps : List (List ℕ × Tree)) → members_left m ≡ ps → Gives (YieldsFirstBy member_pair members_left) member_pair m ps
-members_given m ps e = subst (λ (qs : List (List ℕ × Tree)). Gives (YieldsFirstBy member_pair members_left) member_pair m qs) e (gives_rest member_pair members_left m)

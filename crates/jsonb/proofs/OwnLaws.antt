@@ -1,5 +1,5 @@
 -- The own bytes of an item have its tree.
-use Rattle.std.proofs.Common.{◌≡◌, ℕ, zero, suc, ◌<◌, ◌≤◌, ◌^◌, List, length, drop, Bool, true, false, eqb, Option, Some, None, refl, sym, ap, subst, ◌∙◌, ◌⊎◌, inl, inr, arith}
+use Rattle.std.proofs.Common.{◌≡◌, ℕ, zero, suc, ◌+◌, ◌-◌, ◌<◌, ◌≤◌, ◌^◌, List, length, drop, Bool, true, false, cond, eqb, Option, Some, None, refl, sym, ap, subst, ◌∙◌, ◌⊎◌, inl, inr, arith}
 use Rattle.std.proofs.lemmas.Bool.{eq-eqb, ne_eqb, lt-ltb, cases_lt}
 use Rattle.std.proofs.lemmas.List.{length-append, length-replicate, length-drop}
 use Rattle.json_model.specs.Decimal.{Decimal}
@@ -10,7 +10,10 @@ use Rattle.jsonb_layout.specs.Stands.{padding}
 use Rattle.jsonb_layout.specs.Trees.{item_tree}
 use Rattle.jsonb_layout.proofs.Scalars.{unpadded_takes}
 use Rattle.jsonb_layout.proofs.Tools.{some_is}
-use Rattle.jsonb.specs.Values.{value_of, IsJsonTree, is_short, or_null, kind_of, own_of, HasPad}
+use Rattle.jsonb_layout.specs.SeatReading.{seat_of}
+use Rattle.jsonb_layout.specs.Seats.{Seat, own_bytes, where_it_is}
+use Rattle.jsonb.specs.Seated.{seat_tree}
+use Rattle.jsonb.specs.Values.{value_of, IsJsonTree, is_short, or_null, kind_number, kind_of, own_of, HasPad}
 use Rattle.jsonb.specs.declared.kind.Kind.{Kind}
 use Rattle.jsonb.specs.declared.kind.Kind.TheVariants as kinds
 
@@ -41,6 +44,12 @@ padded_by k at x e json = go (unpadded at x.piece) refl (subst IsJsonTree e json
     go : (r : Option (List ℕ)) → unpadded at x.piece ≡ r → IsJsonTree (r >>= value_of k) → Padded k at x
     go None u h = absurd cc
     go (Some q) u h = end q u (value_of k q) refl h
+
+abbrev some_tree : Tree → Option Tree
+some_tree t = Some t
+
+abbrev pub seat_by : ℕ → ℕ → List ℕ → Seat
+seat_by at kind bytes = record { at = at; kind = kind; bytes = bytes }
 
 module _ (at : ℕ) (x : Item) (json : IsJsonTree (item_tree at x)) where
   scalar_is : (r : Option Scalar) → (x.kind ≡ 5 → ⊥) → scalar_of at x ≡ r → item_tree at x ≡ (r >>= λ s. Some (scalar s))
@@ -99,18 +108,28 @@ module _ (at : ℕ) (x : Item) (json : IsJsonTree (item_tree at x)) where
       let none : scalar_of at x ≡ None = rw (ne_eqb x.kind 0 a, ne_eqb x.kind 1 b, ne_eqb x.kind 2 c, ne_eqb x.kind 3 d, ne_eqb x.kind 4 e) refl in
       let h : IsJsonTree None = subst IsJsonTree (scalar_is None f none) json in cc
 
+  own_is : (k : Kind) → x.kind ≡ kind_number k → own_bytes at x ≡ own_of k at x.piece
+  own_is kinds.String e = rw e refl
+  own_is kinds.Number e = rw e refl
+  own_is kinds.False e = rw e refl
+  own_is kinds.True e = rw e refl
+  own_is kinds.Null e = rw e refl
+  own_is kinds.Container e = rw e refl
+
   -- what the kind of an item says
   pub record KindIs (k : Kind) : Type 0 where
+    pub number : x.kind ≡ kind_number k
     pub fits : HasPad k at x.piece
     pub owned : Owns k (own_of k at x.piece) (item_tree at x)
+    pub own : own_bytes at x ≡ own_of k at x.piece
 
   kind_cases : (n : ℕ) → n < 6 → x.kind ≡ n → (k : Kind) × (kind_of n ≡ Some k) × KindIs k
-  kind_cases zero lt e = (kinds.String, refl, record { fits = tt; owned = own_string e })
-  kind_cases (suc zero) lt e = let p = own_number e in (kinds.Number, refl, record { fits = p.fits; owned = p.owned })
-  kind_cases (suc (suc zero)) lt e = (kinds.False, refl, record { fits = tt; owned = own_false e })
-  kind_cases (suc (suc (suc zero))) lt e = (kinds.True, refl, record { fits = tt; owned = own_true e })
-  kind_cases (suc (suc (suc (suc zero)))) lt e = (kinds.Null, refl, record { fits = tt; owned = own_null e })
-  kind_cases (suc (suc (suc (suc (suc zero))))) lt e = let p = own_container e in (kinds.Container, refl, record { fits = p.fits; owned = p.owned })
+  kind_cases zero lt e = (kinds.String, refl, record { number = e; fits = tt; owned = own_string e; own = own_is kinds.String e })
+  kind_cases (suc zero) lt e = let p = own_number e in (kinds.Number, refl, record { number = e; fits = p.fits; owned = p.owned; own = own_is kinds.Number e })
+  kind_cases (suc (suc zero)) lt e = (kinds.False, refl, record { number = e; fits = tt; owned = own_false e; own = own_is kinds.False e })
+  kind_cases (suc (suc (suc zero))) lt e = (kinds.True, refl, record { number = e; fits = tt; owned = own_true e; own = own_is kinds.True e })
+  kind_cases (suc (suc (suc (suc zero)))) lt e = (kinds.Null, refl, record { number = e; fits = tt; owned = own_null e; own = own_is kinds.Null e })
+  kind_cases (suc (suc (suc (suc (suc zero))))) lt e = let p = own_container e in (kinds.Container, refl, record { number = e; fits = p.fits; owned = p.owned; own = own_is kinds.Container e })
   kind_cases (suc (suc (suc (suc (suc (suc n)))))) lt e = absurd (omega arith)
 
   kind_small : x.kind < 6
@@ -119,11 +138,29 @@ module _ (at : ℕ) (x : Item) (json : IsJsonTree (item_tree at x)) where
     | inr le ↦ absurd (own_other (λ h. omega arith) (λ h. omega arith) (λ h. omega arith) (λ h. omega arith) (λ h. omega arith) (λ h. omega arith))
   ]
 
+  pub kind_found : (k : Kind) × (kind_of x.kind ≡ Some k) × KindIs k
+  kind_found = kind_cases x.kind kind_small refl
+
+  -- the tree of where the item lies is its own
+  pub seat_has_tree : (word begin : ℕ) → Some (seat_tree (seat_of word begin at x)) ≡ item_tree at x
+  seat_has_tree word begin =
+      let k = kind_found in
+      ap (λ (r : Option Kind). some_tree (or_null (r >>= λ k. value_of k (own_bytes at x)))) k.1
+      ∙ ap (λ (b : List ℕ). some_tree (or_null (value_of k.0 b))) k.2.own
+      ∙ k.2.owned.same
+
   pub kind_there : None ≡ kind_of x.kind → ⊥
   kind_there e = let k = kind_cases x.kind kind_small refl in let h : ◌≡◌ {A = Option Kind} None (Some k.0) = e ∙ k.1 in cc
 
   pub kind_is : (k : Kind) → Some k ≡ kind_of x.kind → KindIs k
   kind_is k e = let c = kind_cases x.kind kind_small refl in subst KindIs (some_is c.0 k (sym c.1 ∙ sym e)) c.2
+
+  pub seat_is : (word begin place : ℕ) (k : Kind) (own : List ℕ) → Some k ≡ kind_of x.kind → own ≡ own_of k at x.piece → place ≡ where_it_is own word (begin + (length x.piece - length own)) → seat_by place (kind_number k) own ≡ seat_of word begin at x
+  seat_is word begin place k own e f g =
+      let is = kind_is k e in
+      ap (λ (n : ℕ). seat_by n (kind_number k) own) g
+      ∙ ap (λ (b : List ℕ). seat_by (where_it_is b word (begin + (length x.piece - length b))) (kind_number k) b) (f ∙ sym is.own)
+      ∙ ap (λ (n : ℕ). seat_by (where_it_is (own_bytes at x) word (begin + (length x.piece - length (own_bytes at x)))) n (own_bytes at x)) (sym is.number)
 
 pub short_own : (k : Kind) (at : ℕ) (piece : List ℕ) → length piece < 2 ^ 28 → is_short k (own_of k at piece) ≡ true
 short_own kinds.String at piece lt = refl
@@ -132,3 +169,11 @@ short_own kinds.False at piece lt = refl
 short_own kinds.True at piece lt = refl
 short_own kinds.Null at piece lt = refl
 short_own kinds.Container at piece lt = refl
+
+-- a value ends where its piece does, or has no bytes and is before it
+pub place_room : (own : List ℕ) (word begin place result top : ℕ) → result ≡ where_it_is own word place → word ≤ begin → place + length own < top → begin < top → result + length own < top
+place_room own word begin place result top e le lt less = go (length own) e lt
+  where
+    go : (n : ℕ) → result ≡ cond (eqb n 0) word place → place + n < top → result + n < top
+    go zero e lt = omega (arith, e, le, less)
+    go (suc n) e lt = let k : result ≡ place = e ∙ ap (λ (b : Bool). cond b word place) (ne_eqb (suc n) 0 (λ h. absurd (omega arith))) in omega (arith, k, lt)

@@ -1,20 +1,23 @@
 -- Each answer of the reader by its cause.
-use Rattle.std.proofs.Common.{◌≡◌, ℕ, ◌≤◌, List, true, false, Option, Some, None, refl, sym, ap, ◌∙◌, ◌⊎◌, inl, inr}
-use Rattle.std.specs.Prelude.{Result, Ok, Err, IsSomeAnd, option_map}
+use Rattle.std.proofs.Common.{◌≡◌, ℕ, ◌≤◌, List, [], true, false, Option, Some, None, refl, sym, ap, subst, ◌∙◌, ◌⊎◌, inl, inr}
+use Rattle.std.specs.Prelude.{Result, Ok, Err, IfOk, IsSomeAnd, option_map}
 use Rattle.std.proofs.lemmas.Bool.{ne_eqb}
 use Rattle.json_model.specs.Nest.{nest}
 use Rattle.json_model.specs.Tree.{Scalar, Tree, scalar}
 use Rattle.jsonb_layout.specs.Layout.{Item, Form, list, pairs, lone}
 use Rattle.jsonb_layout.specs.Reading.{◌>>=◌, Place, scalar_of, opened, lone_in, lone_item}
+use Rattle.jsonb_layout.specs.Seats.{Seat, IsRoot, item_seat}
 use Rattle.jsonb_layout.specs.Stands.{Stands}
 use Rattle.jsonb_layout.specs.Trees.{read, held_by, root_in, tree_of, item_tree}
 use Rattle.jsonb_layout.proofs.Containers.{tree_takes, tree_again}
+use Rattle.jsonb_layout.proofs.SeatRuns.{container_is_root, lone_is_root}
 use Rattle.jsonb_layout.proofs.Tools.{IsBytes, bind_some, some_is}
 use Rattle.jsonb_layout.proofs.Unrolled.{read_unroll}
 use Rattle.jsonb.specs.Found.{tree_found, scalar_found}
 use Rattle.jsonb.specs.Nodes.{node_tree}
 use Rattle.jsonb.specs.Reads.{lone_tree, Reads}
 use Rattle.jsonb.specs.Root.{Cause, IsRead, read_tree}
+use Rattle.jsonb.specs.Seated.{node_seat}
 use Rattle.jsonb.specs.Values.{is_clean, IsJsonTree}
 use Rattle.jsonb.specs.declared.error.JsonbError.{JsonbError}
 use Rattle.jsonb.specs.declared.error.JsonbError.TheVariants as errors
@@ -119,3 +122,16 @@ pub lone_node : (x : Item) (f : Found) (n : JsonbNode) → Some f ≡ option_map
 lone_node x f n e clean same =
     let is : lone_tree x ≡ Some (node_tree n) = lone_is_item x f e ∙ sym same in
     (is, ap is_clean (some_is (tree_found (node_tree n)) f (sym (ap (option_map tree_found) is) ∙ lone_found x f e)) ∙ clean)
+
+-- ---- where the root lies
+
+abbrev pub whole : List ℕ → Seat
+whole b = record { at = 0; kind = 5; bytes = b }
+
+pub container_root : (b : List ℕ) → IsBytes b → (r : Result JsonbNode JsonbError) → Reads (read b) r → IfOk r (λ n. node_seat n ≡ whole b) → IfOk r (λ n. IsRoot b (node_seat n))
+container_root b fits (Ok n) h e = subst (IsRoot b) (sym e) (container_is_root b (node_tree n) fits h.0)
+container_root b fits (Err x) h e = tt
+
+pub scalar_root : (b : List ℕ) (x : Item) → IsBytes b → Some x ≡ lone_item b → (r : Result JsonbNode JsonbError) → IfOk r (λ n. node_seat n ≡ item_seat 0 1 [] x) → IfOk r (λ n. IsRoot b (node_seat n))
+scalar_root b x fits e (Ok n) h = subst (IsRoot b) (sym h) (lone_is_root b x fits (sym e))
+scalar_root b x fits e (Err y) h = tt

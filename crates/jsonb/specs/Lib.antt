@@ -10,3 +10,4 @@ pub mod Reads
 pub mod HexText
 pub mod Nested
 pub mod Buffers
+pub mod Seated

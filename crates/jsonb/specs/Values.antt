@@ -42,6 +42,15 @@ is_short _ b = true
 
 -- ---- items
 
+-- the number of a kind in an entry word (PostgreSQL, `jsonb.h`: JENTRY_ISSTRING, JENTRY_ISNUMERIC and so on)
+abbrev pub kind_number : Kind → ℕ
+kind_number kinds.String = 0
+kind_number kinds.Number = 1
+kind_number kinds.False = 2
+kind_number kinds.True = 3
+kind_number kinds.Null = 4
+kind_number kinds.Container = 5
+
 abbrev pub kind_of : ℕ → Option Kind
 kind_of n =
     if n == 0 then Some kinds.String else

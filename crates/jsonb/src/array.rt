@@ -1,6 +1,6 @@
 //! An array in a slice.
 
-ghost use Rattle.std.specs.Prelude.{◌+◌, ◌<◌, ◌^◌, length};
+ghost use Rattle.std.specs.Prelude.{◌+◌, ◌<◌, ◌≤◌, ◌^◌, length};
 ghost use Rattle.jsonb.specs.Values.{array_at, IsJsonTree};
 ghost use Rattle.jsonb.specs.Views.{place};
 
@@ -10,27 +10,36 @@ use crate::opening::{Shape, open};
 use crate::position::Position;
 use json_traits::{Array, HasTree};
 
-/// An array in a slice: how many elements it has, and where they begin. It borrows the slice.
+/// An array in a slice: how many elements it has, where they begin, and where its payload begins in the root's slice. It
+/// borrows the slice.
 #[derive(Clone, Copy)]
 pub struct JsonbArray<'a> {
     pub(crate) count: usize,
+    pub(crate) payload: usize,
     pub(crate) start: Position<'a>,
     ghost stands: { IsJsonTree (array_at count (place start)) },
     ghost index: { start.index + count < 2 ^ 60 },
     ghost at: { start.at + length start.rest.now < 2 ^ 28 },
+    ghost words: { length start.words.now ≤ payload },
+    ghost room: { payload + (start.at + length start.rest.now) < 2 ^ 64 },
 }
 
 impl<'a> JsonbArray<'a> {
-    ghost use Rattle.std.specs.Prelude.{◌≡◌, option_map};
-    ghost use Rattle.jsonb.specs.Nodes.{array_tree};
-    ghost use Rattle.json_model.specs.Parts.{if_array};
+    ghost use Rattle.std.specs.Prelude.{◌≡◌, map, option_map, IfSome};
+    ghost use Rattle.json_model.specs.Parts.{elements_of, if_array};
+    ghost use Rattle.jsonb_layout.specs.Seats.{AreHeld};
     ghost use Rattle.jsonb_layout.specs.Trees.{read};
+    ghost use Rattle.jsonb.specs.Nodes.{array_tree};
+    ghost use Rattle.jsonb.specs.Seated.{array_seats, seat_tree};
     ghost use Rattle.jsonb.specs.Values.{or_null};
 
-    /// The array that a container is, if it is one.
-    pub(crate) fn of(bytes: &'a [u8]) -> Option<JsonbArray<'a>>
-        requires { IsJsonTree (read bytes.now) }
-        ensures { option_map array_tree result ≡ if_array (or_null (read bytes.now)) }
+    /// The array that a container is, if it is one. The container begins at `at` in the root's slice.
+    pub(crate) fn of(at: usize, bytes: &'a [u8]) -> Option<JsonbArray<'a>>
+        requires json { IsJsonTree (read bytes.now) }
+        requires room { at + length bytes.now < 2 ^ 64 }
+        ensures tree { option_map array_tree result ≡ if_array (or_null (read bytes.now)) }
+        ensures held { IfSome result (λ a. AreHeld (record { at = at; kind = 5; bytes = bytes.now }) (array_seats a)) }
+        ensures trees { IfSome result (λ a. map seat_tree (array_seats a) ≡ elements_of (array_tree a)) }
     {
         let Some(opened) = open(bytes) else {
             unreachable!()
@@ -39,6 +48,7 @@ impl<'a> JsonbArray<'a> {
             Shape::Array => {
                 return Some(JsonbArray {
                     count: opened.count,
+                    payload: at + (bytes.len() - opened.start.rest.len()),
                     start: opened.start,
                 });
             }
@@ -58,6 +68,13 @@ impl HasTree for JsonbArray<'_> {
 
 #[tactic(auto, using(crate::proofs::MemberLaws::array_length))]
 impl<'a> Array<'a> for JsonbArray<'a> {
+    ghost use Rattle.std.specs.Prelude.{◌≡◌, map};
+    ghost use Rattle.std.specs.Iterator.{YieldsFirstBy, item_count, IsFinite};
+    ghost use Rattle.json_model.specs.Parts.{elements_of};
+    ghost use Rattle.jsonb.specs.Nodes.{array_tree, node_tree};
+    ghost use Rattle.jsonb.specs.Seated.{array_seats, node_seat, seat_tree, seats_left};
+    ghost use Rattle.json_traits.specs.Gives.{Gives};
+
     type Node = JsonbNode<'a>;
 
     type ElementsIter = Cursor<'a>;
@@ -66,9 +83,15 @@ impl<'a> Array<'a> for JsonbArray<'a> {
         self.count
     }
 
-    fn elements(&self) -> Cursor<'a> {
+    fn elements(&self) -> Cursor<'a>
+        ensures ends { IsFinite (item_count seats_left result) }
+        ensures gives { Gives (YieldsFirstBy node_seat seats_left) node_tree result (elements_of (array_tree self.now)) }
+        ensures seats { seats_left result ≡ array_seats self.now }
+        ensures trees { map seat_tree (array_seats self.now) ≡ elements_of (array_tree self.now) }
+    {
         Cursor {
             left: self.count,
+            payload: self.payload,
             position: self.start,
         }
     }

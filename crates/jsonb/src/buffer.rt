@@ -3,6 +3,7 @@
 ghost use Rattle.std.specs.Prelude.{◌≡◌, IfOk, OnErr, string_bytes};
 ghost use Rattle.json_model.specs.Tree.{scalar, string};
 ghost use Rattle.jsonb.specs.Nodes.{node_tree};
+ghost use Rattle.jsonb.specs.Seated.{node_seat};
 ghost use Rattle.jsonb.specs.Buffers.{buffer_bytes};
 
 use crate::kind::Kind;
@@ -36,17 +37,20 @@ impl JsonbBuffer {
 
     /// The node of the string. It borrows the buffer, and nothing is validated again.
     pub(crate) fn node(&self) -> JsonbNode<'_>
-        ensures { node_tree result ≡ scalar (string (buffer_bytes self.now)) }
+        ensures tree { node_tree result ≡ scalar (string (buffer_bytes self.now)) }
+        ensures seat { node_seat result ≡ record { at = 0; kind = 0; bytes = buffer_bytes self.now } }
     {
         string_node(self.text.as_str())
     }
 }
 
-/// The node of a string that is a text.
+/// The node of a string that is a text. It has no root: it is at byte 0.
 pub fn string_node(text: &str) -> JsonbNode<'_>
-    ensures { node_tree result ≡ scalar (string text.now) }
+    ensures tree { node_tree result ≡ scalar (string text.now) }
+    ensures seat { node_seat result ≡ record { at = 0; kind = 0; bytes = text.now } }
 {
     JsonbNode {
+        at: 0,
         kind: Kind::String,
         bytes: text.as_bytes(),
     }

@@ -1,6 +1,6 @@
 //! The elements of an array.
 
-ghost use Rattle.std.specs.Prelude.{◌+◌, ◌<◌, ◌^◌, length};
+ghost use Rattle.std.specs.Prelude.{◌+◌, ◌<◌, ◌≤◌, ◌^◌, length};
 ghost use Rattle.jsonb.specs.Values.{array_at, IsJsonTree};
 ghost use Rattle.jsonb.specs.Views.{place};
 
@@ -12,21 +12,24 @@ use crate::position::{Position, next_item};
 #[derive(Drop)]
 pub struct Cursor<'a> {
     pub(crate) left: usize,
+    pub(crate) payload: usize,
     pub(crate) position: Position<'a>,
     ghost stands: { IsJsonTree (array_at left (place position)) },
     ghost index: { position.index + left < 2 ^ 60 },
     ghost at: { position.at + length position.rest.now < 2 ^ 28 },
+    ghost words: { length position.words.now ≤ payload },
+    ghost room: { payload + (position.at + length position.rest.now) < 2 ^ 64 },
 }
 
 impl<'a> Iterator for Cursor<'a> {
     type Item = JsonbNode<'a>;
 
     ghost use Rattle.std.specs.Iterator.{YieldsFirstBy, item_count};
-    ghost use Rattle.jsonb.specs.Nodes.{elements_left, node_tree};
+    ghost use Rattle.jsonb.specs.Seated.{node_seat, seats_left};
 
-    ghost next_gives = { YieldsFirstBy node_tree elements_left };
+    ghost next_gives = { YieldsFirstBy node_seat seats_left };
 
-    ghost remaining = { item_count elements_left };
+    ghost remaining = { item_count seats_left };
 
     fn next(&mut self) -> Option<JsonbNode<'a>> {
         if self.left == 0 {
@@ -35,9 +38,10 @@ impl<'a> Iterator for Cursor<'a> {
         let Some((entry, position)) = next_item(self.position) else {
             unreachable!()
         };
-        let node = node_at(self.position.at, entry);
+        let node = node_at(self.payload, self.position, entry);
         *self = Cursor {
             left: self.left - 1,
+            payload: self.payload,
             position,
         };
         Some(node)

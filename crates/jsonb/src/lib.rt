@@ -25,7 +25,10 @@
 //! [`Jsonb`] is a representation of JSON too, by the trait `Json`: a [`JsonbBuffer`] holds the string of a node that is made from a
 //! text, and `prepare_key` and `string_node` take memory for a copy.
 //!
-//! [`encode`] makes bytes, and reads the bytes of hex text. [`laws`] says what holds of the grammar for all bytes.
+//! A node's identity is where it lies, with its kind and length: two nodes of one root have the same one exactly where they are
+//! the same place of its tree, however equal their values are.
+//!
+//! [`encode`] makes bytes, and reads the bytes of hex text. [`laws`] says what holds of the grammar and of places for all bytes.
 #![tactic(auto)]
 
 mod array;

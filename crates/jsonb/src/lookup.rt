@@ -4,6 +4,7 @@ ghost use Rattle.std.specs.Prelude.{◌≡◌, ◌+◌, ◌*◌, ◌<◌, ◌≤
 ghost use Rattle.json_model.specs.Parts.{lookup, pairs_of};
 ghost use Rattle.jsonb.specs.Lookup.{behind_key};
 ghost use Rattle.jsonb.specs.Nodes.{node_tree, object_tree};
+ghost use Rattle.jsonb.specs.Seated.{node_seat, object_seats};
 ghost use Rattle.jsonb.specs.Values.{skip};
 ghost use Rattle.jsonb.specs.Views.{place};
 
@@ -32,6 +33,7 @@ pub fn find_key<'a, L: Ledger>(
     ensures read { option_map place result ≡ behind_key key.now count (place start.entry) }
     ensures index { IfSome result (λ r. r.index ≤ start.entry.index + count) }
     ensures at { IfSome result (λ r. r.at + length r.rest.now ≡ start.entry.at + length start.entry.rest.now) }
+    ensures words { IfSome result (λ r. length r.words.now ≤ length start.entry.words.now) }
     ensures rise { steps.old ≤ steps.new }
     ensures few { steps.new ≤ steps.old + count }
 {
@@ -57,6 +59,7 @@ pub fn pass_counted<'a, L: Ledger>(
     ensures read { option_map place result ≡ skip count (place start.entry) }
     ensures index { IfSome result (λ r. r.index ≡ start.entry.index + count) }
     ensures at { IfSome result (λ r. r.at + length r.rest.now ≡ start.entry.at + length start.entry.rest.now) }
+    ensures words { IfSome result (λ r. length r.words.now ≤ length start.entry.words.now) }
     ensures rise { steps.old ≤ steps.new }
     ensures few { steps.new ≤ steps.old + count }
 {
@@ -72,6 +75,7 @@ impl<'a> JsonbObject<'a> {
     /// The value under a key, if there is one, and a step for each entry word that is read. It takes no memory.
     pub fn get_counted<L: Ledger>(&self, key: &[u8], steps: &mut Steps<L>) -> Option<JsonbNode<'a>>
         ensures found { option_map node_tree result ≡ lookup key.now (pairs_of (object_tree self.now)) }
+        ensures seat { option_map node_seat result ≡ lookup key.now (object_seats self.now) }
         ensures rise { steps.old ≤ steps.new }
     {
         let behind = find_key(self.count, self.start, key, steps)?;
@@ -81,7 +85,7 @@ impl<'a> JsonbObject<'a> {
         let Some((entry, _)) = next_item_counted(position, steps) else {
             unreachable!()
         };
-        Some(node_at(position.at, entry))
+        Some(node_at(self.payload, position, entry))
     }
 }
 
@@ -94,7 +98,8 @@ pub fn get_in<'a, L: Ledger>(
     requires name { blank.name ≡ L.name }
     requires parts { blank.parts ≡ L.parts }
     requires some { 0 < blank.parts }
-    ensures { option_map node_tree result ≡ lookup key.now (pairs_of (object_tree object.now)) }
+    ensures found { option_map node_tree result ≡ lookup key.now (pairs_of (object_tree object.now)) }
+    ensures seat { option_map node_seat result ≡ lookup key.now (object_seats object.now) }
 {
     let mut steps = Steps::<L>::new(blank);
     object.get_counted(key, &mut steps)

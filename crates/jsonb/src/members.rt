@@ -1,6 +1,6 @@
 //! The members of an object.
 
-ghost use Rattle.std.specs.Prelude.{◌+◌, ◌<◌, ◌^◌, length};
+ghost use Rattle.std.specs.Prelude.{◌+◌, ◌<◌, ◌≤◌, ◌^◌, length};
 ghost use Rattle.jsonb.specs.Values.{members_at, AreJsonMembers};
 ghost use Rattle.jsonb.specs.Views.{place};
 
@@ -13,6 +13,7 @@ use crate::scalar::text_of;
 #[derive(Drop)]
 pub struct JsonbMembers<'a> {
     pub(crate) left: usize,
+    pub(crate) payload: usize,
     pub(crate) keys: Position<'a>,
     pub(crate) values: Position<'a>,
     ghost stands: { AreJsonMembers (members_at left (place keys) (place values)) },
@@ -20,15 +21,17 @@ pub struct JsonbMembers<'a> {
     ghost key_at: { keys.at + length keys.rest.now < 2 ^ 28 },
     ghost value_index: { values.index + left < 2 ^ 60 },
     ghost value_at: { values.at + length values.rest.now < 2 ^ 28 },
+    ghost words: { length values.words.now ≤ payload },
+    ghost room: { payload + (values.at + length values.rest.now) < 2 ^ 64 },
 }
 
 impl<'a> Iterator for JsonbMembers<'a> {
     type Item = (&'a str, JsonbNode<'a>);
 
     ghost use Rattle.std.specs.Iterator.{YieldsFirstBy, item_count};
-    ghost use Rattle.jsonb.specs.Nodes.{members_left, member_pair};
+    ghost use Rattle.jsonb.specs.Seated.{members_left, member_seat};
 
-    ghost next_gives = { YieldsFirstBy member_pair members_left };
+    ghost next_gives = { YieldsFirstBy member_seat members_left };
 
     ghost remaining = { item_count members_left };
 
@@ -43,9 +46,10 @@ impl<'a> Iterator for JsonbMembers<'a> {
             unreachable!()
         };
         let name = text_of(key.piece);
-        let node = node_at(self.values.at, entry);
+        let node = node_at(self.payload, self.values, entry);
         *self = JsonbMembers {
             left: self.left - 1,
+            payload: self.payload,
             keys,
             values,
         };

@@ -1,7 +1,7 @@
 //! A value in a slice.
 
-ghost use Rattle.std.specs.Prelude.{◌≡◌, IsTrue};
-ghost use Rattle.jsonb.specs.Values.{value_of, IsJsonTree, is_short};
+ghost use Rattle.std.specs.Prelude.{◌≡◌, ◌+◌, ◌*◌, ◌%◌, ◌<◌, ◌^◌, length, IsTrue};
+ghost use Rattle.jsonb.specs.Values.{kind_number, value_of, IsJsonTree, is_short};
 
 use crate::array::JsonbArray;
 use crate::kind::Kind;
@@ -10,16 +10,19 @@ use crate::object::JsonbObject;
 use crate::scalar::text_of;
 use bytecount::num_chars;
 use json_traits::types::JsonType;
-use json_traits::{HasTree, Node};
+use json_traits::{HasTree, Node, NodeIdentity};
 
-/// A value in a slice: its kind, and its own bytes without padding. It borrows the slice, which was read whole before, so
-/// that nothing is validated again.
+/// A value in a slice: where it is, its kind, and its own bytes without padding. It borrows the slice, which was read whole
+/// before, so that nothing is validated again. It is where its own bytes begin; a value without bytes, such as null or an
+/// empty string, is where its entry word is.
 #[derive(Clone, Copy)]
 pub struct JsonbNode<'a> {
+    pub(crate) at: usize,
     pub(crate) kind: Kind,
     pub(crate) bytes: &'a [u8],
     ghost stands: { IsJsonTree (value_of kind bytes.now) },
     ghost short: { IsTrue (is_short kind bytes.now) },
+    ghost room: { at + length bytes.now < 2 ^ 64 },
 }
 
 impl HasTree for JsonbNode<'_> {
@@ -28,7 +31,23 @@ impl HasTree for JsonbNode<'_> {
     ghost tree = { node_tree };
 }
 
+/// The second number of an identity: the kind times 2^28, and the length modulo 2^28.
+fn tag(kind: Kind, length: usize) -> u32
+    ensures { result ≡ kind_number kind * 2 ^ 28 + length % 2 ^ 28 }
+{
+    kind.number() as u32 * 0x1000_0000 + (length % 0x1000_0000) as u32
+}
+
 impl<'a> Node<'a> for JsonbNode<'a> {
+    ghost use Rattle.std.specs.Prelude.{Some, map, option_map, IfSome};
+    ghost use Rattle.json_model.specs.Parts.{elements_of, if_array, if_object, pairs_of};
+    ghost use Rattle.jsonb_layout.specs.Seats.{AreHeld};
+    ghost use Rattle.json_traits.specs.Identities.{pair};
+    ghost use Rattle.jsonb.specs.Nodes.{node_tree, array_tree, object_tree};
+    ghost use Rattle.jsonb.specs.Seated.{some_identity, node_seat, seat_tree, array_seats, object_seats, member_tree, values_of};
+
+    ghost identity_of = { some_identity };
+
     type Object = JsonbObject<'a>;
 
     type Array = JsonbArray<'a>;
@@ -36,17 +55,25 @@ impl<'a> Node<'a> for JsonbNode<'a> {
     type Number = JsonbNumber<'a>;
 
     #[tactic(auto, using(crate::proofs::KindLaws::no_object, crate::proofs::KindLaws::container_stands))]
-    fn as_object(&self) -> Option<JsonbObject<'a>> {
+    fn as_object(&self) -> Option<JsonbObject<'a>>
+        ensures tree { option_map object_tree result ≡ if_object (node_tree self.now) }
+        ensures held { IfSome result (λ o. AreHeld (node_seat self.now) (values_of (object_seats o))) }
+        ensures pairs { IfSome result (λ o. map member_tree (object_seats o) ≡ pairs_of (object_tree o)) }
+    {
         match self.kind {
-            Kind::Container => JsonbObject::of(self.bytes),
+            Kind::Container => JsonbObject::of(self.at, self.bytes),
             _ => None,
         }
     }
 
     #[tactic(auto, using(crate::proofs::KindLaws::no_array, crate::proofs::KindLaws::container_stands))]
-    fn as_array(&self) -> Option<JsonbArray<'a>> {
+    fn as_array(&self) -> Option<JsonbArray<'a>>
+        ensures tree { option_map array_tree result ≡ if_array (node_tree self.now) }
+        ensures held { IfSome result (λ a. AreHeld (node_seat self.now) (array_seats a)) }
+        ensures trees { IfSome result (λ a. map seat_tree (array_seats a) ≡ elements_of (array_tree a)) }
+    {
         match self.kind {
-            Kind::Container => JsonbArray::of(self.bytes),
+            Kind::Container => JsonbArray::of(self.at, self.bytes),
             _ => None,
         }
     }
@@ -107,7 +134,7 @@ impl<'a> Node<'a> for JsonbNode<'a> {
             Kind::Number => JsonType::Number,
             Kind::False | Kind::True => JsonType::Boolean,
             Kind::Null => JsonType::Null,
-            Kind::Container => match JsonbObject::of(self.bytes) {
+            Kind::Container => match JsonbObject::of(self.at, self.bytes) {
                 Some(_) => JsonType::Object,
                 None => JsonType::Array,
             },
@@ -118,6 +145,24 @@ impl<'a> Node<'a> for JsonbNode<'a> {
     fn string_length(&self) -> Option<u64> {
         match self.kind {
             Kind::String => Some(num_chars(self.bytes) as u64),
+            _ => None,
+        }
+    }
+
+    /// The address is where the value is in the root's slice, from 0; the tag is its kind as entry words number it, from 0 for a
+    /// string to 5 for an array or object, times 2^28, plus the length in bytes modulo 2^28, without padding. Two nodes of one
+    /// root have the same identity exactly where they are the same place. These numbers are this project's own.
+    fn identity(&self) -> Option<NodeIdentity>
+        ensures identity { result ≡ some_identity self.now }
+        ensures pair { option_map pair result ≡ Some ((node_seat self.now).at, (node_seat self.now).kind * 2 ^ 28 + length (node_seat self.now).bytes % 2 ^ 28) }
+    {
+        Some(NodeIdentity::tagged(self.at, tag(self.kind, self.bytes.len())))
+    }
+
+    #[tactic(auto, using(crate::proofs::KindLaws::no_container, crate::proofs::KindLaws::container_is))]
+    fn container_identity(&self) -> Option<NodeIdentity> {
+        match self.kind {
+            Kind::Container => self.identity(),
             _ => None,
         }
     }

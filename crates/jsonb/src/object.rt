@@ -1,6 +1,6 @@
 //! An object in a slice.
 
-ghost use Rattle.std.specs.Prelude.{◌+◌, ◌*◌, ◌<◌, ◌^◌, length};
+ghost use Rattle.std.specs.Prelude.{◌+◌, ◌*◌, ◌<◌, ◌≤◌, ◌^◌, length};
 ghost use Rattle.jsonb.specs.Values.{object_at, IsJsonTree};
 ghost use Rattle.jsonb.specs.Views.{place};
 
@@ -15,27 +15,36 @@ use json_traits::{HasTree, Object};
 use std::marker::Brand;
 use std::sync::ledger::Blank;
 
-/// An object in a slice: how many members it has, and where their keys begin. It borrows the slice.
+/// An object in a slice: how many members it has, where their keys begin, and where its payload begins in the root's slice.
+/// It borrows the slice.
 #[derive(Clone, Copy)]
 pub struct JsonbObject<'a> {
     pub(crate) count: usize,
+    pub(crate) payload: usize,
     pub(crate) start: Position<'a>,
     ghost stands: { IsJsonTree (object_at count (place start)) },
     ghost index: { start.index + 2 * count < 2 ^ 60 },
     ghost at: { start.at + length start.rest.now < 2 ^ 28 },
+    ghost words: { length start.words.now ≤ payload },
+    ghost room: { payload + (start.at + length start.rest.now) < 2 ^ 64 },
 }
 
 impl<'a> JsonbObject<'a> {
-    ghost use Rattle.std.specs.Prelude.{◌≡◌, option_map};
-    ghost use Rattle.json_model.specs.Parts.{if_object};
-    ghost use Rattle.jsonb.specs.Nodes.{object_tree};
+    ghost use Rattle.std.specs.Prelude.{◌≡◌, map, option_map, IfSome};
+    ghost use Rattle.json_model.specs.Parts.{if_object, pairs_of};
+    ghost use Rattle.jsonb_layout.specs.Seats.{AreHeld};
     ghost use Rattle.jsonb_layout.specs.Trees.{read};
+    ghost use Rattle.jsonb.specs.Nodes.{object_tree};
+    ghost use Rattle.jsonb.specs.Seated.{member_tree, object_seats, values_of};
     ghost use Rattle.jsonb.specs.Values.{or_null};
 
-    /// The object that a container is, if it is one.
-    pub(crate) fn of(bytes: &'a [u8]) -> Option<JsonbObject<'a>>
-        requires { IsJsonTree (read bytes.now) }
-        ensures { option_map object_tree result ≡ if_object (or_null (read bytes.now)) }
+    /// The object that a container is, if it is one. The container begins at `at` in the root's slice.
+    pub(crate) fn of(at: usize, bytes: &'a [u8]) -> Option<JsonbObject<'a>>
+        requires json { IsJsonTree (read bytes.now) }
+        requires room { at + length bytes.now < 2 ^ 64 }
+        ensures tree { option_map object_tree result ≡ if_object (or_null (read bytes.now)) }
+        ensures held { IfSome result (λ o. AreHeld (record { at = at; kind = 5; bytes = bytes.now }) (values_of (object_seats o))) }
+        ensures pairs { IfSome result (λ o. map member_tree (object_seats o) ≡ pairs_of (object_tree o)) }
     {
         let Some(opened) = open(bytes) else {
             unreachable!()
@@ -44,6 +53,7 @@ impl<'a> JsonbObject<'a> {
             Shape::Object => {
                 return Some(JsonbObject {
                     count: opened.count,
+                    payload: at + (bytes.len() - opened.start.rest.len()),
                     start: opened.start,
                 });
             }
@@ -63,11 +73,14 @@ impl HasTree for JsonbObject<'_> {
 
 #[tactic(auto, using(crate::proofs::MemberLaws::object_length))]
 impl<'a> Object<'a> for JsonbObject<'a> {
-    ghost use Rattle.std.specs.Prelude.{◌≡◌, map, true};
+    ghost use Rattle.std.specs.Prelude.{◌≡◌, map, option_map, true};
     ghost use Rattle.std.specs.Iterator.{YieldsFirstBy, item_count, IsFinite};
     ghost use Rattle.json_model.specs.Keys.{rises};
     ghost use Rattle.json_model.specs.Parts.{pairs_of};
-    ghost use Rattle.jsonb.specs.Nodes.{object_tree, members_left, member_pair};
+    ghost use Rattle.json_model.specs.Parts.{lookup};
+    ghost use Rattle.jsonb.specs.Lookup.{key_name};
+    ghost use Rattle.jsonb.specs.Nodes.{object_tree, node_tree};
+    ghost use Rattle.jsonb.specs.Seated.{members_left, member_seat, member_tree, object_seats, node_seat};
     ghost use Rattle.json_traits.specs.Gives.{Gives};
 
     type Node = JsonbNode<'a>;
@@ -87,8 +100,9 @@ impl<'a> Object<'a> for JsonbObject<'a> {
 
     fn members(&self) -> JsonbMembers<'a>
         ensures ends { IsFinite (item_count members_left result) }
-        ensures gives { Gives (YieldsFirstBy member_pair members_left) member_pair result (pairs_of (object_tree self.now)) }
-        ensures pairs { members_left result ≡ pairs_of (object_tree self.now) }
+        ensures gives { Gives (YieldsFirstBy member_seat members_left) (λ p. (p.0.now, node_tree p.1)) result (pairs_of (object_tree self.now)) }
+        ensures seats { members_left result ≡ object_seats self.now }
+        ensures pairs { map member_tree (object_seats self.now) ≡ pairs_of (object_tree self.now) }
         ensures rise { rises (map (λ p. p.0) (pairs_of (object_tree self.now))) ≡ true }
         ensures few { length (pairs_of (object_tree self.now)) < 2 ^ 60 }
     {
@@ -97,16 +111,23 @@ impl<'a> Object<'a> for JsonbObject<'a> {
         };
         JsonbMembers {
             left: self.count,
+            payload: self.payload,
             keys: self.start,
             values,
         }
     }
 
-    fn get(&self, key: &JsonbKey) -> Option<JsonbNode<'a>> {
+    fn get(&self, key: &JsonbKey) -> Option<JsonbNode<'a>>
+        ensures found { option_map node_tree result ≡ lookup (key_name key.now) (pairs_of (object_tree self.now)) }
+        ensures seat { option_map node_seat result ≡ lookup (key_name key.now) (object_seats self.now) }
+    {
         get_in::<Brand>(self, key.bytes(), Blank::new(1))
     }
 
-    fn get_named(&self, name: &str) -> Option<JsonbNode<'a>> {
+    fn get_named(&self, name: &str) -> Option<JsonbNode<'a>>
+        ensures found { option_map node_tree result ≡ lookup name.now (pairs_of (object_tree self.now)) }
+        ensures seat { option_map node_seat result ≡ lookup name.now (object_seats self.now) }
+    {
         get_in::<Brand>(self, name.as_bytes(), Blank::new(1))
     }
 }

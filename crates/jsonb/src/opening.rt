@@ -29,6 +29,8 @@ pub fn open(bytes: &[u8]) -> Option<Opened<'_>>
     ensures count { IfSome result (λ o. o.count < 2 ^ 28) }
     ensures index { IfSome result (λ o. o.start.index ≡ 0) }
     ensures at { IfSome result (λ o. o.start.at + length o.start.rest.now < 2 ^ 28) }
+    ensures size { IfSome result (λ o. 4 + length o.start.words.now + length o.start.rest.now ≡ length bytes.now) }
+    ensures begin { IfSome result (λ o. o.start.at ≡ 0) }
 {
     if bytes.len() < 4 {
         return None;

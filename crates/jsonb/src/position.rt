@@ -25,8 +25,6 @@ pub struct Position<'a> {
 
 const HAS_OFF: u32 = 0x8000_0000;
 
-const FIELD: u32 = 0x0fff_ffff;
-
 #[tactic(auto, unfolding(jsonb_layout::specs::Reading::length_of))]
 fn piece_length(index: usize, at: usize, word: u32) -> Option<usize>
     ensures { result ≡ length_of index at word }
@@ -53,6 +51,7 @@ pub fn next_item(position: Position<'_>) -> Option<(Entry<'_>, Position<'_>)>
     ensures piece { IfSome result (λ r. length r.0.piece.now ≤ length position.entry.rest.now) }
     ensures index { IfSome result (λ r. r.1.index ≡ position.entry.index + 1) }
     ensures at { IfSome result (λ r. r.1.at + length r.1.rest.now ≡ position.entry.at + length position.entry.rest.now) }
+    ensures words { IfSome result (λ r. length r.1.words.now ≤ length position.entry.words.now) }
 {
     if position.words.len() < 4 {
         return None;
@@ -85,6 +84,7 @@ pub fn next_item_counted<'a, L: Ledger>(
     ensures piece { IfSome result (λ r. length r.0.piece.now ≤ length position.entry.rest.now) }
     ensures index { IfSome result (λ r. r.1.index ≡ position.entry.index + 1) }
     ensures at { IfSome result (λ r. r.1.at + length r.1.rest.now ≡ position.entry.at + length position.entry.rest.now) }
+    ensures words { IfSome result (λ r. length r.1.words.now ≤ length position.entry.words.now) }
     ensures steps { steps.new ≡ steps.old + 1 }
 {
     steps.tick();

@@ -2,13 +2,16 @@
 
 ghost use Rattle.std.specs.Prelude.{◌≡◌, ◌≤◌, ◌⊎◌, ◌<◌, ◌^◌, [], length, Err, IfOk};
 ghost use Rattle.json_model.specs.Nest.{nest};
-ghost use Rattle.json_model.specs.Tree.{Tree};
+ghost use Rattle.json_model.specs.Tree.{Tree, scalar, string as string_scalar};
+ghost use Rattle.jsonb_layout.specs.Seats.{IsRoot, item_seat};
 ghost use Rattle.jsonb_layout.specs.Stands.{Stands};
 ghost use Rattle.jsonb_layout.specs.Trees.{read};
 ghost use Rattle.jsonb.specs.Buffers.{buffer_bytes};
 ghost use Rattle.jsonb.specs.Lookup.{key_name};
+ghost use Rattle.jsonb.specs.Nodes.{node_tree};
 ghost use Rattle.jsonb.specs.Reads.{Judges, Reads, lone_tree};
 ghost use Rattle.jsonb.specs.Root.{IsRead, read_tree};
+ghost use Rattle.jsonb.specs.Seated.{node_seat};
 ghost use Rattle.jsonb.specs.Views.{item};
 
 use crate::buffer::JsonbBuffer;
@@ -18,7 +21,7 @@ use crate::key::JsonbKey;
 use crate::kind::Kind;
 use crate::node::JsonbNode;
 use crate::opening::lone;
-use crate::own::node_at;
+use crate::own::node_of;
 use crate::position::Entry;
 use crate::scalar::scalar;
 use crate::search::search;
@@ -28,6 +31,11 @@ use std::alloc::Global;
 
 /// The `jsonb` representation of JSON.
 pub struct Jsonb;
+
+/// Where the entry word of a root scalar is, behind the header word, and its piece, behind the entry word.
+const SCALAR_WORD: usize = 4;
+
+const SCALAR_PIECE: usize = 8;
 
 /// Whether what was found keeps a slice from being JSON.
 fn judge(found: Found) -> Result<(), JsonbError>
@@ -45,20 +53,22 @@ fn judge(found: Found) -> Result<(), JsonbError>
 /// The node of a root scalar's item.
 fn root_scalar(entry: Entry<'_>) -> Result<JsonbNode<'_>, JsonbError>
     requires { length entry.piece.now < 2 ^ 28 }
-    ensures { Reads (lone_tree (item entry.entry)) result }
+    ensures read { Reads (lone_tree (item entry.entry)) result }
+    ensures seat { IfOk result (λ n. node_seat n ≡ item_seat 0 1 [] (item entry.entry)) }
 {
     let Some(found) = scalar(0, entry) else {
         return Err(JsonbError::Malformed);
     };
     match judge(found) {
-        Ok(()) => Ok(node_at(0, entry)),
+        Ok(()) => Ok(node_of(SCALAR_WORD, SCALAR_PIECE, 0, entry)),
         Err(error) => Err(error),
     }
 }
 
 /// The node of a container.
 fn root_container(alloc: Global, bytes: &[u8]) -> Result<JsonbNode<'_>, JsonbError>
-    ensures { Reads (read bytes.now) result }
+    ensures read { Reads (read bytes.now) result }
+    ensures seat { IfOk result (λ n. node_seat n ≡ record { at = 0; kind = 5; bytes = bytes.now }) }
 {
     let found = match search(alloc, bytes) {
         Ok(found) => found,
@@ -66,6 +76,7 @@ fn root_container(alloc: Global, bytes: &[u8]) -> Result<JsonbNode<'_>, JsonbErr
     };
     match judge(found) {
         Ok(()) => Ok(JsonbNode {
+            at: 0,
             kind: Kind::Container,
             bytes,
         }),
@@ -79,6 +90,7 @@ impl Jsonb {
     /// It looks at each byte a fixed number of times, and takes memory for the nesting alone.
     pub fn root(alloc: Global, container: &[u8]) -> Result<JsonbNode<'_>, JsonbError>
         ensures read { (result ≡ Err JsonbError.OutOfMemory) ⊎ IsRead container.now (read_tree result) }
+        ensures seat { IfOk result (λ n. IsRoot container.now (node_seat n)) }
         ensures free { (t : Tree) → Stands container.now t → nest t ≤ 1 → result ≡ Err JsonbError.OutOfMemory → ⊥ }
     {
         let Some(entry) = lone(container) else {
@@ -113,7 +125,10 @@ impl<'a> Json<'a> for Jsonb {
         alloc: Global,
         buffer: &'a mut JsonbBuffer,
         string: &str,
-    ) -> Result<JsonbNode<'a>, OutOfMemory> {
+    ) -> Result<JsonbNode<'a>, OutOfMemory>
+        ensures tree { IfOk result (λ n. node_tree n ≡ scalar (string_scalar string.now)) }
+        ensures seat { IfOk result (λ n. node_seat n ≡ record { at = 0; kind = 0; bytes = string.now }) }
+    {
         buffer.put(alloc, string)?;
         Ok(buffer.node())
     }

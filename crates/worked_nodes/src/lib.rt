@@ -5,8 +5,6 @@
 #[cfg(test)]
 mod layout;
 #[cfg(test)]
-mod lookups;
-#[cfg(test)]
 mod nodes;
 #[cfg(test)]
 mod numbers;

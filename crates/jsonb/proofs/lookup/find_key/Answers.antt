@@ -15,6 +15,7 @@ loop-preserved g c = record {
   reads = key_on c.args.key.now c.args.count c.loop.counter (place c.loop.position) (behind_key c.args.key.now c.args.count (place c.args.start)) c.loop.invariant.reads (item c.in_ok-entry.entry) (place c.in_ok-entry.after) c.loop-test.true c.in_ok-entry.ensures.read c.if-is_same.ensures;
   index = omega (arith, c.in_ok-entry.ensures.index);
   at = c.in_ok-entry.ensures.at ∙ c.loop.invariant.at;
+  words = omega (arith, c.in_ok-entry.ensures.words, c.loop.invariant.words);
   ticks = omega (arith, c.in_ok-entry.ensures.steps);
 }
 

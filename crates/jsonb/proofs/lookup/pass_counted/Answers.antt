@@ -12,6 +12,7 @@ loop-preserved g c = record {
   reads = skip_on c.args.count c.loop.counter (place c.loop.position) (skip c.args.count (place c.args.start)) c.loop.invariant.reads _ (place c.in_ok-after.after) c.loop-test.true c.in_ok-after.ensures.read;
   index = omega (arith, c.in_ok-after.ensures.index);
   at = c.in_ok-after.ensures.at ∙ c.loop.invariant.at;
+  words = omega (arith, c.in_ok-after.ensures.words, c.loop.invariant.words);
   ticks = omega (arith, c.in_ok-after.ensures.steps);
 }
 

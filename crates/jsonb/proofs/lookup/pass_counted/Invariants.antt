@@ -1,4 +1,4 @@
-use Rattle.std.proofs.Common.{◌≡◌, ◌-◌, ◌+◌, length}
+use Rattle.std.proofs.Common.{◌≡◌, ◌-◌, ◌+◌, ◌≤◌, length}
 use Rattle.jsonb.specs.Values.{skip}
 use Rattle.jsonb.specs.Views.{place}
 use Rattle.jsonb.proofs.lookup.pass_counted.Given as goal
@@ -8,5 +8,6 @@ invariant-loop g l = record {
   reads : skip (l.count - l.counter) (place l.position) ≡ skip l.count (place l.start);
   index : l.position.index ≡ l.start.index + l.counter;
   at : l.position.at + length l.position.rest.now ≡ l.start.at + length l.start.rest.now;
+  words : length l.position.words.now ≤ length l.start.words.now;
   ticks : l.steps ≡ l.fn.steps + l.counter;
 }

@@ -1,13 +1,13 @@
-use Rattle.std.proofs.Common.{◌-◌, ◌∷◌, Option, length, sym, ap, ◌∙◌, arith}
-use Rattle.json_model.specs.Parts.{elements_of}
-use Rattle.json_model.specs.Tree.{Tree}
-use Rattle.jsonb.specs.Values.{or_null, array_at}
+use Rattle.std.proofs.Common.{◌-◌, ◌∷◌, length, sym, ap, ◌∙◌, arith}
+use Rattle.jsonb_layout.specs.SeatReading.{seats_at}
+use Rattle.jsonb_layout.specs.Seats.{Seat}
 use Rattle.jsonb.specs.Views.{item, place}
-use Rattle.jsonb.proofs.CursorLaws.{no_elements_left, elements_go_on, element_is, elements_are}
+use Rattle.jsonb.proofs.CursorLaws.{elements_go_on, element_is}
+use Rattle.jsonb.proofs.SeatTrees.{no_seats_left, seats_go_on}
 use Rattle.jsonb.proofs.cursor.CursorIterator.next.Goals as goal
 
 pub returns-then-self-eq0-clause-steps : goal.returns-then-self-eq0-clause-steps
-returns-then-self-eq0-clause-steps c = let e = no_elements_left c.args.self.now.left (place c.args.self.now.position) c.if-self-eq0.true in (e, e)
+returns-then-self-eq0-clause-steps c = let e = no_seats_left c.args.self.now.payload c.args.self.now.left (place c.args.self.now.position) c.if-self-eq0.true in (e, e)
 
 pub unreachable-requires : goal.unreachable-requires
 unreachable-requires c = elements_go_on c.args.self.now.left (place c.args.self.now.position) (omega arith) c.args.self.now.stands c.in_default.ensures.read
@@ -20,14 +20,16 @@ invariant_of-self c = record {
   stands = (element_is c.args.self.now.left (place c.args.self.now.position) (omega arith) c.args.self.now.stands (item c.in-Some.entry) (place c.in-Some.position) c.in-Some.ensures.read).more;
   index = omega (arith, c.args.self.now.index, c.in-Some.ensures.index);
   at = omega (arith, c.args.self.now.at, c.in-Some.ensures.at);
+  words = omega (arith, c.args.self.now.words, c.in-Some.ensures.words);
+  room = omega (arith, c.args.self.now.room, c.in-Some.ensures.at);
 }
 
 pub returns-clause-steps : goal.returns-clause-steps
 returns-clause-steps c =
-    elements_are c.args.self.now.left (place c.args.self.now.position) (omega arith) c.args.self.now.stands (item c.in-Some.entry) (place c.in-Some.position) c.in-Some.ensures.read
-    ∙ ap (λ (o : Option Tree). or_null o ∷ elements_of (or_null (array_at (c.args.self.now.left - 1) (place c.in-Some.position)))) (sym c.node_at-node.ensures)
+    seats_go_on c.args.self.now.payload c.args.self.now.left (place c.args.self.now.position) (place c.in-Some.position) (item c.in-Some.entry) (omega arith) c.in-Some.ensures.read
+    ∙ ap (λ (s : Seat). s ∷ seats_at c.args.self.now.payload (c.args.self.now.left - 1) (place c.in-Some.position)) (sym c.node_at-node.ensures.seat)
 
 pub returns-clause-goes : goal.returns-clause-goes
 returns-clause-goes c =
-    let e = elements_are c.args.self.now.left (place c.args.self.now.position) (omega arith) c.args.self.now.stands (item c.in-Some.entry) (place c.in-Some.position) c.in-Some.ensures.read in
+    let e = seats_go_on c.args.self.now.payload c.args.self.now.left (place c.args.self.now.position) (place c.in-Some.position) (item c.in-Some.entry) (omega arith) c.in-Some.ensures.read in
     record { on = λ _. (tt, tt, omega (arith, ap length e)); keeps = tt; rests = λ _. tt }

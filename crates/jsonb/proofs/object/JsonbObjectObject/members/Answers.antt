@@ -1,6 +1,9 @@
-use Rattle.std.proofs.Common.{arith}
+use Rattle.std.proofs.Common.{map, ap, ◌∙◌, arith}
+use Rattle.jsonb.specs.Seated.{member_tree}
 use Rattle.jsonb.specs.Views.{place}
-use Rattle.jsonb.proofs.MemberLaws.{passes, members_stand, members_pairs, members_given, object_rises, object_length}
+use Rattle.jsonb.proofs.MemberLaws.{passes, members_stand, object_rises, object_length}
+use Rattle.jsonb.proofs.SeatHolds.{seats_behind_is, object_trees}
+use Rattle.jsonb.proofs.SeatTrees.{members_given}
 use Rattle.jsonb.proofs.object.JsonbObjectObject.members.Goals as goal
 
 pub unreachable-requires : goal.unreachable-requires
@@ -13,13 +16,20 @@ invariant_of-result c = record {
   key_at = c.args.self.now.at;
   value_index = omega (arith, c.args.self.now.index, c.in-Some.ensures.index);
   value_at = omega (arith, c.args.self.now.at, c.in-Some.ensures.at);
+  words = omega (arith, c.args.self.now.words, c.in-Some.ensures.words);
+  room = omega (arith, c.args.self.now.room, c.in-Some.ensures.at);
 }
 
-pub returns-clause-gives : goal.returns-clause-gives
-returns-clause-gives c = members_given _ _ (members_pairs c.args.self.now.count (place c.args.self.now.start) c.args.self.now.stands (place c.in-Some.values) c.in-Some.ensures.read)
+pub returns-clause-seats : goal.returns-clause-seats
+returns-clause-seats c = seats_behind_is c.args.self.now.payload c.args.self.now.count (place c.args.self.now.start) (place c.in-Some.values) c.in-Some.ensures.read
 
 pub returns-clause-pairs : goal.returns-clause-pairs
-returns-clause-pairs c = members_pairs c.args.self.now.count (place c.args.self.now.start) c.args.self.now.stands (place c.in-Some.values) c.in-Some.ensures.read
+returns-clause-pairs c = object_trees c.args.self.now.payload c.args.self.now.count (place c.args.self.now.start) c.args.self.now.stands
+
+pub returns-clause-gives : goal.returns-clause-gives
+returns-clause-gives c =
+    let left = ap (map member_tree) (seats_behind_is c.args.self.now.payload c.args.self.now.count (place c.args.self.now.start) (place c.in-Some.values) c.in-Some.ensures.read) in
+    members_given _ _ (left ∙ object_trees c.args.self.now.payload c.args.self.now.count (place c.args.self.now.start) c.args.self.now.stands)
 
 pub returns-clause-rise : goal.returns-clause-rise
 returns-clause-rise c = object_rises c.args.self.now.count (place c.args.self.now.start) c.args.self.now.stands

@@ -4,7 +4,7 @@ use json_exact::{Map, OutOfMemory, Value};
 use json_semantics::{SerdeJson, ValueNode};
 use json_traits::{HasName, Json, Node, Object};
 use jsonb::Jsonb;
-use jsonb::encode::decode_hex;
+use jsonb::encode::{assemble, decode_hex};
 use std::alloc::Global;
 use std::test::Fail;
 
@@ -97,6 +97,64 @@ fn members_are_looked_up_by_key(rt: HostRuntime) -> Result<(), Fail> {
             none,
             "at {slice}"
         );
+    }
+    Ok(())
+}
+
+/// The bytes of the object of these many members: the keys `100`, `101` and so on, each with itself for its value. Each 32nd
+/// entry word has the sum of the lengths up to its own, and the others have the length.
+fn numbered(alloc: Global, count: u32, names: &[&str]) -> Option<Vec<u8>> {
+    let mut entries = Vec::new(alloc);
+    let mut payload = Vec::new(alloc);
+    for place in 0..count.checked_mul(2)? {
+        let end = place.checked_add(1)?.checked_mul(3)?;
+        let word = if place % 32 == 0 {
+            0x8000_0000 | end
+        } else {
+            3
+        };
+        entries.push(word).ok()?;
+    }
+    for _ in 0..2 {
+        for name in names {
+            payload.extend_from_slice(name.as_bytes()).ok()?;
+        }
+    }
+    assemble(alloc, 0x2000_0000 | count, &entries, &payload).ok()
+}
+
+#[test]
+fn objects_of_many_members_are_looked_up_by_key(rt: HostRuntime) -> Result<(), Fail> {
+    let alloc = rt.alloc();
+    for count in [1u32, 2, 33, 200] {
+        let mut names = Vec::new(alloc);
+        for number in 100..count.saturating_add(100) {
+            names.push(format!(in alloc; "{number}")?)?;
+        }
+        let mut keys = Vec::new(alloc);
+        for name in &names {
+            keys.push(name.as_str())?;
+        }
+        let bytes = numbered(alloc, count, &keys).ok_or("memory")?;
+        let in_slice = Jsonb::root(alloc, &bytes)?.as_object().ok_or("an object")?;
+        let value = keys_as_values(alloc, &keys).ok_or("memory")?;
+        let in_memory = ValueNode::new(&value).as_object().ok_or("an object")?;
+        for key in &keys {
+            let beside = format!(in alloc; "{key}0")?;
+            for (name, found) in [(*key, Some(*key)), (beside.as_str(), None)] {
+                let found = (found, found);
+                assert_eq!(rt;
+                    found_under::<Jsonb, _>(alloc, in_slice, name)?,
+                    found,
+                    "{name} of {count}"
+                );
+                assert_eq!(rt;
+                    found_under::<SerdeJson, _>(alloc, in_memory, name)?,
+                    found,
+                    "{name} of {count}"
+                );
+            }
+        }
     }
     Ok(())
 }

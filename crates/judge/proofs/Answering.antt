@@ -1,6 +1,7 @@
 -- Each answer of `judge` is the right one.
 use Rattle.std.proofs.Common.{◌≡◌, ◌≤◌, ℕ, List, Bool, Some, None, refl, sym, ap, subst, ◌∙◌, ◌⊎◌, inl, inr}
 use Rattle.std.specs.Prelude.{Result, Ok, Err, ◌↔◌, IsTrue}
+use Rattle.json_model.specs.Json.{IsJson}
 use Rattle.json_model.specs.Nest.{nest}
 use Rattle.json_model.specs.Tree.{Tree}
 use Rattle.jsonb_layout.proofs.Containers.{one_tree}
@@ -10,6 +11,7 @@ use Rattle.jsonb.specs.declared.error.JsonbError.{JsonbError}
 use Rattle.jsonb.specs.declared.error.JsonbError.TheVariants as read
 use Rattle.judge.specs.Passes.{Passes, IsCompiled, HasThisFault}
 use Rattle.judge.specs.Right.{Answer, Right, keywords_error, document_error, keyword_error}
+use Rattle.judge.specs.Validity.{IsValid}
 use Rattle.judge.specs.declared.checks.Checks.{Checks}
 use Rattle.judge.specs.declared.errors.JudgeError.{JudgeError}
 use Rattle.judge.specs.declared.errors.JudgeError.TheVariants as judged
@@ -69,6 +71,10 @@ module _ {X : Type 0} (k d : List ℕ) where
           go : (◌≡◌ {A = Result Checks KeywordError} (Ok c) (Err keyword.OutOfMemory)) ⊎ IsCompiled t c → IsCompiled t c
           go (inl h) = absurd cc
           go (inr h) = h
+
+      -- keywords that were compiled are JSON, and valid
+      pub not_refused : (u : Tree) → Stands k u → (IsJson u × IsValid u → ⊥) → ⊥
+      not_refused u stands never = never (subst (λ (v : Tree). IsJson v × IsValid v) (one_tree k t u reads.0 stands) (reads.1, compiled.valid))
 
       pub document_refused : (e : JsonbError) (x : JudgeError) → x ≡ document_error e → Said {X = X} d (Err e) (Err e) → Answers k d (Err x)
       unfolding Right

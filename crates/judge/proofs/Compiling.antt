@@ -6,12 +6,12 @@ use Rattle.std.proofs.lemmas.Option.{slice_get_past}
 use Rattle.std.proofs.lemmas.Slice.Eq.{bytes_eq-Decides}
 use Rattle.json_model.specs.Nest.{nest, nest_members}
 use Rattle.json_model.specs.Tree.{Tree, scalar, array, object, Members, no_members, member}
-use Rattle.json_model.specs.Parts.{pairs_of, pairs_in, as_object}
+use Rattle.json_model.specs.Parts.{pairs_of, pairs_in, as_array, as_object}
 use Rattle.json_model.specs.Keys.{key_before, rises}
 use Rattle.json_traits.proofs.GivesLaws.{AtItem}
 use Rattle.judge.specs.Names.{keyword_of}
 use Rattle.judge.specs.Passes.{Passes, IsFree, Adds, Took, AddFault, IsFault, IsCompiled, HasThisFault}
-use Rattle.judge.specs.Validity.{IsFair, IsFirst, IsUnknown, IsUnbuilt, IsBad}
+use Rattle.judge.specs.Validity.{IsFair, IsFirst, IsUnknown, IsUnbuilt, IsBad, ListsNames}
 use Rattle.judge.specs.Verdict.{Holds, HoldsAt}
 use Rattle.judge.specs.declared.checks.Checks.{Checks}
 use Rattle.judge.specs.declared.errors.KeywordError.{KeywordError}
@@ -113,7 +113,7 @@ refused m w p NotAnObject is f = f
 refused m w p (UnknownKeyword n) is f = absurd f
 refused m w p (BadKeyword n) is f = (f.0, rw is (f.1, f.2))
 refused m w p Unbuilt is f = rw is f
-refused m w p OutOfMemory is f = f
+refused m w p OutOfMemory is f = (is ∙ ap (λ (v : Keyword). let o : Option Keyword = Some v in o) f.0, f.1)
 
 -- ---- all members
 
@@ -127,6 +127,11 @@ value_nests : (t : Tree) (k : ℕ) (p : Pair) → slice_get (pairs_of t) k ≡ S
 value_nests (scalar x) k p e = absurd (let z : None ≡ Some p = sym (slice_get_past [] k (omega arith)) ∙ e in cc)
 value_nests (array ts) k p e = absurd (let z : None ≡ Some p = sym (slice_get_past [] k (omega arith)) ∙ e in cc)
 value_nests (object ms) k p e = let le = member_nests ms k p e in omega arith
+
+list_nests : (v : Tree) → IsSome (as_array v) → 1 ≤ nest v
+list_nests (scalar x) h = absurd cc
+list_nests (array ts) h = omega arith
+list_nests (object ms) h = absurd cc
 
 -- the first k pairs of t were taken in
 pub record Walked (t : Tree) (checks : Checks) (k : ℕ) : Type 0 where
@@ -171,13 +176,21 @@ module _ (t : Tree) (checks : Checks) (k : ℕ) (p : Pair) (at : AtItem (pairs_o
   stops m Unbuilt is f = inr (k, first_here IsUnbuilt f)
   stops m OutOfMemory is f = inl refl
 
-  -- where no value is a container, memory is never wanting
+  -- memory is wanting only where names are listed, and no member before has a fault
+  pub stops_at_names : (m : ℕ) (e : KeywordError) → IsFault m p e → ◌≡◌ {A = Result Checks KeywordError} (Err e) (Err OutOfMemory) → (i : ℕ) × IsFirst t i ListsNames
+  stops_at_names m NotAnObject f h = absurd cc
+  stops_at_names m (UnknownKeyword n) f h = absurd cc
+  stops_at_names m (BadKeyword n) f h = absurd cc
+  stops_at_names m Unbuilt f h = absurd cc
+  stops_at_names m OutOfMemory f h = (k, first_here ListsNames f)
+
+  -- so it never is where no value is a container
   pub stops_with_memory : (m : ℕ) (e : KeywordError) → IsFault m p e → nest t ≤ 1 → ◌≡◌ {A = Result Checks KeywordError} (Err e) (Err OutOfMemory) → ⊥
   stops_with_memory m NotAnObject f le h = cc
   stops_with_memory m (UnknownKeyword n) f le h = cc
   stops_with_memory m (BadKeyword n) f le h = cc
   stops_with_memory m Unbuilt f le h = cc
-  stops_with_memory m OutOfMemory f le h = let lt = value_nests t k p at.here in omega arith
+  stops_with_memory m OutOfMemory f le h = let lt = value_nests t k p at.here in let some = list_nests p.1 f.1 in omega arith
 
 pub ends : (t : Tree) (checks : Checks) (k : ℕ) → length (pairs_of t) ≤ k → Walked t checks k → IsCompiled t checks
 ends t checks k le s =

@@ -2,11 +2,17 @@ pub mod Answering
 pub mod BoundLaws
 pub mod Compiling
 pub mod Cuts
+pub mod Decided
 pub mod KnownBytes
 pub mod NameLists
 pub mod OneAnswer
 pub mod Pairs
 pub mod Runs
+pub mod SameVerdict
+pub mod SomeAnswer
+pub mod SomeFault
+pub mod SomeRead
+pub mod SomeVerdict
 pub mod Steps
 pub mod Texts
 pub mod TypeLists

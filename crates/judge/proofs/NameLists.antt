@@ -1,23 +1,16 @@
 -- What reading a list of names keeps from element to element.
-use Rattle.std.proofs.Common.{arith, ◌≡◌, ℕ, ◌+◌, ◌≤◌, List, [], ◌∷◌, ◌++◌, length, take, Option, Some, None, Bool, true, false, cond, ◌⊎◌, inl, inr, refl, sym, ap, subst, ◌∙◌, take_all, Bor}
+use Rattle.std.proofs.Common.{◌≡◌, ℕ, ◌+◌, ◌≤◌, List, [], ◌∷◌, ◌++◌, length, take, Option, Some, None, Bool, true, false, cond, ◌⊎◌, inl, inr, refl, sym, ap, subst, ◌∙◌, take_all, Bor}
 use Rattle.std.specs.Prelude.{◌↔◌, IsTrue, IsSome, IfSome, String, string_bytes, bytes_eq}
 use Rattle.std.specs.List.{AllByRecursion}
 use Rattle.std.proofs.lemmas.Slice.Eq.{bytes_eq-Decides}
-use Rattle.json_model.specs.Nest.{nest}
-use Rattle.json_model.specs.Tree.{Tree, scalar, array, object}
-use Rattle.json_model.specs.Parts.{as_string, if_array, lookup}
+use Rattle.json_model.specs.Tree.{Tree}
+use Rattle.json_model.specs.Parts.{as_string, lookup}
 use Rattle.json_traits.proofs.GivesLaws.{AtItem}
 use Rattle.judge.specs.Passes.{HasKeys, Gains}
 use Rattle.judge.specs.Validity.{AreDistinct, AreNames}
 use Rattle.judge.specs.Verdict.{IsAmong, IsKeyOf}
 use Rattle.judge.proofs.Compiling.{all_snoc, all_front}
 use Rattle.judge.proofs.TypeLists.{all_take, distinct_take, distinct_snoc, last_is_new, among_snoc, name_is_new, name_is_old}
-
--- an array is a container
-pub array_nests : {s : Tree} (t : Tree) → Some s ≡ if_array t → 1 ≤ nest t
-array_nests (scalar x) e = absurd cc
-array_nests (array ts) e = omega arith
-array_nests (object ms) e = absurd cc
 
 abbrev IsString : Tree → Type 0
 IsString v = IsSome (as_string v)

@@ -37,10 +37,10 @@ of_weight_is String = refl
 of_weight_is Array = refl
 of_weight_is Object = refl
 
-same_is : (t u : JsonType) → same t u ≡ true → t ≡ u
+pub same_is : (t u : JsonType) → same t u ≡ true → t ≡ u
 same_is t u h = sym (of_weight_is t) ∙ ap of_weight (eqb-true (weight t) (weight u) h) ∙ of_weight_is u
 
-same_refl : (t : JsonType) → same t t ≡ true
+pub same_refl : (t : JsonType) → same t t ≡ true
 same_refl Null = refl
 same_refl Boolean = refl
 same_refl Integer = refl

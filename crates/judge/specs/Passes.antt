@@ -1,9 +1,8 @@
 -- Which documents pass compiled checks, and what compiling does. The code's own words.
-use Rattle.std.specs.Prelude.{List, [], ◌∷◌, ◌++◌, ℕ, pos, ◌*◌, ◌<ℤ◌, ◌≡◌, ◌↔◌, IsTrue, IsSome, IsSomeAnd, ◌≤◌, String, string_bytes, Option, Some, None, IfSome, ⊤}
+use Rattle.std.specs.Prelude.{List, [], ◌∷◌, ◌++◌, ℕ, pos, ◌*◌, ◌<ℤ◌, ◌≡◌, ◌↔◌, IsTrue, IsSome, IsSomeAnd, String, string_bytes, Option, Some, None, IfSome, ⊤}
 use Rattle.json_exact.specs.Exact.{exactly, parts}
 use Rattle.json_model.specs.Decimal.{Decimal, IsBelow}
 use Rattle.json_model.specs.Parts.{as_array, as_number, as_object, elements_of, lookup}
-use Rattle.json_model.specs.Nest.{nest}
 use Rattle.json_model.specs.Tree.{Tree}
 use Rattle.json_semantics.specs.Bounds.{Keeps}
 use Rattle.json_semantics.specs.declared.numeric_check.BoundOp.{BoundOp}
@@ -16,14 +15,14 @@ use Rattle.json_traits.specs.declared.types.json_type.JsonType.{JsonType}
 use Rattle.json_traits.specs.declared.types.set.JsonTypeSet.{JsonTypeSet}
 use Rattle.std.specs.List.{AllByRecursion}
 use Rattle.judge.specs.Names.{keyword_of}
-use Rattle.judge.specs.Validity.{AreTypeNames, HasFault, HasForm, IsBuilt, IsFair, IsUnknown, IsUnbuilt, IsBad, IsValid}
+use Rattle.judge.specs.Validity.{AreTypeNames, HasFault, HasForm, IsBuilt, IsFair, IsUnknown, IsUnbuilt, IsBad, IsValid, ListsNames}
 use Rattle.judge.specs.Verdict.{IsAmong, IsNamed, Reaches, IsUpTo, length_of, items_of, members_of, Holds, HoldsAt, Verdict}
 use Rattle.judge.specs.declared.checks.Checks.{Checks}
 use Rattle.judge.specs.declared.count.Count.{Count}
 use Rattle.judge.specs.declared.errors.KeywordError.{KeywordError}
 use Rattle.judge.specs.declared.errors.KeywordError.TheVariants.{NotAnObject, UnknownKeyword, BadKeyword, Unbuilt, OutOfMemory}
 use Rattle.judge.specs.declared.keyword.Keyword.{Keyword}
-use Rattle.judge.specs.declared.keyword.Keyword.TheVariants.{«Type», Minimum, Maximum, ExclusiveMinimum, ExclusiveMaximum, MinLength, MaxLength, MinItems, MaxItems, MinProperties, MaxProperties, Required}
+use Rattle.judge.specs.declared.keyword.Keyword.TheVariants.{«Type», Enum, Const, UniqueItems, Pattern, Minimum, Maximum, ExclusiveMinimum, ExclusiveMaximum, MinLength, MaxLength, MinItems, MaxItems, MinProperties, MaxProperties, Required}
 
 -- the set holds just the types that v names
 abbrev pub IsSetOf : Tree → JsonTypeSet → Type 0
@@ -102,7 +101,10 @@ IsFree MaxItems c = c.max_items ≡ None
 IsFree MinProperties c = c.min_properties ≡ None
 IsFree MaxProperties c = c.max_properties ≡ None
 IsFree Required c = c.required ≡ None
-IsFree _ c = ⊤
+IsFree Enum c = ⊤
+IsFree Const c = ⊤
+IsFree UniqueItems c = ⊤
+IsFree Pattern c = ⊤
 
 -- new checks what old checks, and the keyword w with the value v
 pub record Adds (old : Checks) (w : Keyword) (v : Tree) (new : Checks) : Type 0 where
@@ -115,13 +117,13 @@ pub record Adds (old : Checks) (w : Keyword) (v : Tree) (new : Checks) : Type 0 
 abbrev pub IsBadForm : ℕ → Type 0 → KeywordError → Type 0
 IsBadForm m F e = (e ≡ BadKeyword m) × (F → ⊥)
 
--- the keyword w of member number m has a value v with the fault e; memory is taken for a container alone
+-- the keyword w of member number m has a value v with the fault e; memory is taken for the names that `required` lists alone
 abbrev pub AddFault : ℕ → Keyword → Tree → KeywordError → Type 0
 AddFault m w v NotAnObject = ⊥
 AddFault m w v (UnknownKeyword n) = ⊥
 AddFault m w v (BadKeyword n) = (n ≡ m) × IsBuilt w v × (HasForm w v → ⊥)
 AddFault m w v Unbuilt = IsBuilt w v → ⊥
-AddFault m w v OutOfMemory = 1 ≤ nest v
+AddFault m w v OutOfMemory = (w ≡ Required) × IsSome (as_array v)
 
 -- the member p was taken in
 pub record Took (old : Checks) (p : List ℕ × Tree) (new : Checks) : Type 0 where
@@ -135,7 +137,7 @@ IsFault m p NotAnObject = ⊥
 IsFault m p (UnknownKeyword n) = (n ≡ m) × IsUnknown p
 IsFault m p (BadKeyword n) = (n ≡ m) × IsBad p
 IsFault m p Unbuilt = IsUnbuilt p
-IsFault m p OutOfMemory = 1 ≤ nest p.1
+IsFault m p OutOfMemory = ListsNames p
 
 -- the keyword object t has no fault, and a document passes the checks c exactly where it is valid
 pub record IsCompiled (t : Tree) (c : Checks) : Type 0 where

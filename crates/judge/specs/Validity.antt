@@ -13,7 +13,7 @@ use Rattle.judge.specs.Verdict.{IsNameOf}
 use Rattle.judge.specs.declared.errors.KeywordError.{KeywordError}
 use Rattle.judge.specs.declared.errors.KeywordError.TheVariants.{NotAnObject, UnknownKeyword, BadKeyword, Unbuilt, OutOfMemory}
 use Rattle.judge.specs.declared.keyword.Keyword.{Keyword}
-use Rattle.judge.specs.declared.keyword.Keyword.TheVariants.{«Type», Minimum, Maximum, ExclusiveMinimum, ExclusiveMaximum, MinLength, MaxLength, MinItems, MaxItems, MinProperties, MaxProperties, Required}
+use Rattle.judge.specs.declared.keyword.Keyword.TheVariants.{«Type», Enum, Const, UniqueItems, Pattern, Minimum, Maximum, ExclusiveMinimum, ExclusiveMaximum, MinLength, MaxLength, MinItems, MaxItems, MinProperties, MaxProperties, Required}
 
 -- what is built
 abbrev pub IsBuilt : Keyword → Tree → Type 0
@@ -29,7 +29,10 @@ IsBuilt MaxItems v = ⊤
 IsBuilt MinProperties v = ⊤
 IsBuilt MaxProperties v = ⊤
 IsBuilt Required v = ⊤
-IsBuilt _ v = ⊥
+IsBuilt Enum v = ⊥
+IsBuilt Const v = ⊥
+IsBuilt UniqueItems v = ⊥
+IsBuilt Pattern v = ⊥
 
 -- a name of a type
 abbrev pub IsTypeName : Tree → Type 0
@@ -66,7 +69,10 @@ HasForm MaxItems v = IsSomeAnd (as_number v) IsCount
 HasForm MinProperties v = IsSomeAnd (as_number v) IsCount
 HasForm MaxProperties v = IsSomeAnd (as_number v) IsCount
 HasForm Required v = IsSomeAnd (as_array v) AreNames
-HasForm _ v = ⊤
+HasForm Enum v = ⊤
+HasForm Const v = ⊤
+HasForm UniqueItems v = ⊤
+HasForm Pattern v = ⊤
 
 -- a member with no fault
 abbrev pub IsFair : List ℕ × Tree → Type 0
@@ -81,6 +87,10 @@ IsUnbuilt p = IsSomeAnd (keyword_of p.0) (λ w. (IsBuilt w p.1 → ⊥))
 
 abbrev pub IsBad : List ℕ × Tree → Type 0
 IsBad p = IsSomeAnd (keyword_of p.0) (λ w. IsBuilt w p.1 × (HasForm w p.1 → ⊥))
+
+-- The member is `required` with a list, fair or not: the one member whose reading takes memory.
+abbrev pub ListsNames : List ℕ × Tree → Type 0
+ListsNames p = (keyword_of p.0 ≡ Some Required) × IsSome (as_array p.1)
 
 -- member number m is P, and no member before it has a fault
 pub record IsFirst (t : Tree) (m : ℕ) (P : List ℕ × Tree → Type 0) : Type 0 where

@@ -13,7 +13,7 @@ use Rattle.json_traits.specs.Numbers.{whole}
 use Rattle.json_traits.specs.declared.types.json_type.JsonType.{JsonType}
 use Rattle.judge.specs.Names.{keyword_of}
 use Rattle.judge.specs.declared.keyword.Keyword.{Keyword}
-use Rattle.judge.specs.declared.keyword.Keyword.TheVariants.{«Type», Minimum, Maximum, ExclusiveMinimum, ExclusiveMaximum, MinLength, MaxLength, MinItems, MaxItems, MinProperties, MaxProperties, Required}
+use Rattle.judge.specs.declared.keyword.Keyword.TheVariants.{«Type», Enum, Const, UniqueItems, Pattern, Minimum, Maximum, ExclusiveMinimum, ExclusiveMaximum, MinLength, MaxLength, MinItems, MaxItems, MinProperties, MaxProperties, Required}
 
 -- the tree is a string that names the type
 abbrev pub IsNameOf : JsonType → Tree → Type 0
@@ -64,7 +64,10 @@ Holds MaxItems v d = IfSome (as_number v) (λ m. IfSome (items_of d) (IsUpTo m))
 Holds MinProperties v d = IfSome (as_number v) (λ m. IfSome (members_of d) (Reaches m))
 Holds MaxProperties v d = IfSome (as_number v) (λ m. IfSome (members_of d) (IsUpTo m))
 Holds Required v d = IfSome (as_object d) (λ ps. AllByRecursion (IsKeyOf ps) (elements_of v))
-Holds _ v d = ⊤
+Holds Enum v d = ⊤
+Holds Const v d = ⊤
+Holds UniqueItems v d = ⊤
+Holds Pattern v d = ⊤
 
 abbrev pub HoldsAt : Tree → List ℕ × Tree → Type 0
 HoldsAt d p = IfSome (keyword_of p.0) (λ w. Holds w p.1 d)

@@ -1,10 +1,11 @@
 //! Compiled keyword objects.
 
-ghost use Rattle.std.specs.Prelude.{◌≡◌, ◌↔◌, ◌⊎◌, ◌≤◌, IsTrue, IsOk, Some, Err, IfOk, IfErr, OnOk, MatchResult};
+ghost use Rattle.std.specs.Prelude.{ℕ, ◌≡◌, ◌↔◌, ◌⊎◌, ◌≤◌, IsTrue, IsOk, Some, Err, IfOk, IfErr, OnOk, MatchResult};
 ghost use Rattle.json_model.specs.Nest.{nest};
 ghost use Rattle.json_model.specs.Tree.{Tree};
 ghost use Rattle.judge.specs.Names.{keyword_of};
 ghost use Rattle.judge.specs.Passes.{AddFault, Adds, HasThisFault, IsCompiled, IsFault, IsFree, Passes, Took};
+ghost use Rattle.judge.specs.Validity.{IsFirst, ListsNames};
 ghost use Rattle.judge.specs.declared.keyword.Keyword.{Keyword};
 
 use crate::count::Count;
@@ -112,9 +113,10 @@ impl Checks {
     }
 
     /// Compiles a keyword object, whose members it walks once, in key order. The error is that of the first faulty member.
-    /// It takes memory for the names that `required` lists alone.
+    /// It takes memory for the names that `required` lists alone: no other keyword object gets want of memory.
     pub fn compile<'a, N: Node<'a>>(alloc: Global, root: &N) -> Result<Checks, KeywordError>
         ensures right { (result ≡ Err KeywordError.OutOfMemory) ⊎ MatchResult result (IsCompiled (N.tree root.now)) (HasThisFault (N.tree root.now)) }
+        ensures names { result ≡ Err KeywordError.OutOfMemory → (m : ℕ) × IsFirst (N.tree root.now) m ListsNames }
         ensures free { nest (N.tree root.now) ≤ 1 → result ≡ Err KeywordError.OutOfMemory → ⊥ }
     {
         let Some(object) = root.as_object() else {
@@ -133,7 +135,8 @@ impl Checks {
         Ok(checks)
     }
 
-    /// Whether a document passes each check: where it is valid under the keyword object. It takes no memory.
+    /// Whether a document passes each check: where it is valid under the keyword object. It takes no memory, and never answers
+    /// want of it.
     pub fn check<'a, N: Node<'a>>(&self, _alloc: Global, node: &N) -> Result<bool, OutOfMemory>
         ensures ok { IsOk result }
         ensures right { IfOk result (λ b. IsTrue b ↔ Passes self.now (N.tree node.now)) }

@@ -3,12 +3,15 @@
 ghost use Rattle.std.specs.Prelude.{◌≡◌, ◌↔◌, Bool, Result, IsTrue};
 ghost use Rattle.judge.specs.Passes.{Passes};
 ghost use Rattle.json_exact.specs.Trees.{tree};
+ghost use Rattle.json_model.specs.Same.{Same};
 ghost use Rattle.judge.specs.Right.{Answer, Right, RightOnTrees};
+ghost use Rattle.judge.specs.Verdict.{Verdict};
 ghost use Rattle.judge.specs.declared.errors.KeywordError.{KeywordError};
 
 use crate::checks::Checks;
 use json_exact::Value;
 use json_semantics::ValueNode;
+use json_semantics::laws::keys_rise;
 use json_traits::Node;
 use std::alloc::Global;
 
@@ -20,12 +23,38 @@ pub fn one_answer(keywords: &[u8], document: &[u8])
     let _document = document.len();
 }
 
+/// Each pair of slices has a right answer.
+pub fn some_answer(keywords: &[u8], document: &[u8])
+    ensures { (r : Answer) × Right keywords.now document.now r }
+{
+    let _keywords = keywords.len();
+    let _document = document.len();
+}
+
 /// Two values have at most one right answer, as keywords and as a document: the causes of a refusal exclude one another.
 pub fn one_answer_on_values(keywords: &Value, document: &Value)
     ensures { (r q : Result Bool KeywordError) → RightOnTrees (tree keywords.now) (tree document.now) r → RightOnTrees (tree keywords.now) (tree document.now) q → r ≡ q }
 {
     let _keywords = ValueNode::new(keywords);
     let _document = ValueNode::new(document);
+}
+
+/// Two values have a right answer: the fault of the keywords, or the verdict.
+pub fn some_answer_on_values(keywords: &Value, document: &Value)
+    ensures { (r : Result Bool KeywordError) × RightOnTrees (tree keywords.now) (tree document.now) r }
+{
+    let _keywords = ValueNode::new(keywords);
+    let _document = ValueNode::new(document);
+}
+
+/// Documents that are equal by JSON equality have one verdict under each keyword object: 1 is 1.0. It passes over each document
+/// once, by recursion as deep as it nests, and takes no memory.
+pub fn equal_documents_have_one_verdict(keywords: &Value, left: &Value, right: &Value)
+    ensures { Same (tree left.now) (tree right.now) → Verdict (tree keywords.now) (tree left.now) ↔ Verdict (tree keywords.now) (tree right.now) }
+{
+    let _keywords = ValueNode::new(keywords);
+    keys_rise(left);
+    keys_rise(right);
 }
 
 /// The verdicts on two nodes, which are one where both stand for one tree, whatever holds them: a slice, or a value in memory.

@@ -12,7 +12,7 @@ use std::alloc::Global;
 use std::collections::BTreeSet;
 
 /// The names that the value of `required` lists, each once. It takes memory for copies of them, and for a set of them while it
-/// looks for one that stands twice: n names cost some n log2 n comparisons.
+/// looks for one that stands twice. Want of memory comes of a list alone.
 pub(crate) fn read_names<'a, N: Node<'a>>(
     alloc: Global,
     value: &N,
@@ -56,7 +56,7 @@ fn keep(alloc: Global, names: &mut Vec<String>, name: &str) -> bool
     true
 }
 
-/// Whether a value is no object, or has each of the names as a key. It looks each up.
+/// Whether a value is no object, or has each of the names as a key. It looks each up: in a slice a look-up walks over the keys.
 #[tactic(auto, using(json_model::proofs::KindLaws::object_some, json_model::proofs::KindLaws::object_none, json_model::proofs::KindLaws::if_object_is))]
 pub(crate) fn meets_required<'a, N: Node<'a>>(names: &Option<Vec<String>>, node: &N) -> bool
     ensures { IsTrue result ↔ IfSome names.now (λ names. IfSome (as_object (N.tree node.now)) (HasKeys names.items)) }

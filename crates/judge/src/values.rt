@@ -1,8 +1,10 @@
 //! The verdict on two values in memory.
 
-ghost use Rattle.std.specs.Prelude.{◌≡◌, ◌⊎◌, Err};
+ghost use Rattle.std.specs.Prelude.{ℕ, ◌≡◌, ◌≤◌, ◌⊎◌, Err};
 ghost use Rattle.json_exact.specs.Trees.{tree};
+ghost use Rattle.json_model.specs.Nest.{nest};
 ghost use Rattle.judge.specs.Right.{RightOnTrees};
+ghost use Rattle.judge.specs.Validity.{IsFirst, ListsNames};
 
 use crate::checks::Checks;
 use crate::errors::KeywordError;
@@ -13,7 +15,9 @@ use std::alloc::Global;
 /// Whether the document is valid under the keyword object, by JSON Schema 2020-12. It takes memory for the names that
 /// `required` lists alone.
 pub fn judge_values(alloc: Global, keywords: &Value, document: &Value) -> Result<bool, KeywordError>
-    ensures { (result ≡ Err KeywordError.OutOfMemory) ⊎ RightOnTrees (tree keywords.now) (tree document.now) result }
+    ensures right { (result ≡ Err KeywordError.OutOfMemory) ⊎ RightOnTrees (tree keywords.now) (tree document.now) result }
+    ensures names { result ≡ Err KeywordError.OutOfMemory → (m : ℕ) × IsFirst (tree keywords.now) m ListsNames }
+    ensures free { nest (tree keywords.now) ≤ 1 → result ≡ Err KeywordError.OutOfMemory → ⊥ }
 {
     let checks = match Checks::compile(alloc, &ValueNode::new(keywords)) {
         Ok(checks) => checks,

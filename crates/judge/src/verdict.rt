@@ -1,10 +1,12 @@
 //! The verdict on two slices.
 
 ghost use Rattle.std.specs.Prelude.{◌≡◌, ◌≤◌, ◌⊎◌, Err};
+ghost use Rattle.json_model.specs.Json.{IsJson};
 ghost use Rattle.json_model.specs.Nest.{nest};
 ghost use Rattle.json_model.specs.Tree.{Tree};
 ghost use Rattle.jsonb_layout.specs.Stands.{Stands};
 ghost use Rattle.judge.specs.Right.{Right};
+ghost use Rattle.judge.specs.Validity.{IsValid};
 
 use crate::checks::Checks;
 use crate::errors::JudgeError;
@@ -16,9 +18,11 @@ use std::alloc::Global;
 ///
 /// The keywords are read whole, in place, and where they have no fault the document is too, whether a keyword looks at a part
 /// or not. Memory is taken for the nesting and for the names that `required` lists: where no container of either stands
-/// inside another, none is.
+/// inside another, want of memory is never answered, and neither where the keywords alone are so and are refused. Each name
+/// that `required` lists walks over the document's keys.
 pub fn judge(alloc: Global, keywords: &[u8], document: &[u8]) -> Result<bool, JudgeError>
     ensures right { (result ≡ Err JudgeError.OutOfMemory) ⊎ Right keywords.now document.now result }
+    ensures refused { (t : Tree) → Stands keywords.now t → nest t ≤ 1 → (IsJson t × IsValid t → ⊥) → result ≡ Err JudgeError.OutOfMemory → ⊥ }
     ensures free { (t u : Tree) → Stands keywords.now t → nest t ≤ 1 → Stands document.now u → nest u ≤ 1 → result ≡ Err JudgeError.OutOfMemory → ⊥ }
 {
     let root = match Jsonb::root(alloc, keywords) {

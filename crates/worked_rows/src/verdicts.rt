@@ -367,9 +367,9 @@ fn limits_hold_of_every_other_kind(rt: HostRuntime) -> Result<(), Fail> {
         Value::Null,
         Value::Bool(false),
         number_of("9").ok_or("9")?,
-        string_of(alloc, "").ok_or("memory")?,
-        array_of(alloc, &[]).ok_or("memory")?,
-        keyed_by(alloc, &[]).ok_or("memory")?,
+        string_of(alloc, "ab").ok_or("memory")?,
+        array_of(alloc, &["a", "b"]).ok_or("memory")?,
+        keyed_by(alloc, &["a", "b"]).ok_or("memory")?,
     ];
     // each keyword, and the place of the one document that fails it
     let rows = [
@@ -377,9 +377,12 @@ fn limits_hold_of_every_other_kind(rt: HostRuntime) -> Result<(), Fail> {
         ("maximum", "8", 2),
         ("exclusiveMinimum", "9", 2),
         ("exclusiveMaximum", "9", 2),
-        ("minLength", "1", 3),
-        ("minItems", "1", 4),
-        ("minProperties", "1", 5),
+        ("minLength", "3", 3),
+        ("minItems", "3", 4),
+        ("minProperties", "3", 5),
+        ("maxLength", "1", 3),
+        ("maxItems", "1", 4),
+        ("maxProperties", "1", 5),
     ];
     for (keyword, literal, failing) in &rows {
         let limit = number_of(literal).ok_or("a number")?;

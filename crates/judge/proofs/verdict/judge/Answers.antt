@@ -1,5 +1,5 @@
 use Rattle.jsonb.specs.Nodes.{node_tree}
-use Rattle.judge.proofs.Answering.{keywords_refused, keyword_refused, keyword_refused_with_memory, document_refused, verdict}
+use Rattle.judge.proofs.Answering.{keywords_refused, keyword_refused, keyword_refused_with_memory, not_refused, document_refused, verdict}
 use Rattle.judge.proofs.verdict.judge.Goals as goal
 
 pub returns-in-Err-clause-right : goal.returns-in-Err-clause-right
@@ -16,3 +16,9 @@ returns-in-Ok-check-clause-right c = verdict c.args.keywords.now c.args.document
 
 pub returns-in-Err-compile-clause-free : goal.returns-in-Err-compile-clause-free
 returns-in-Err-compile-clause-free c = λ t u stands le _ _. keyword_refused_with_memory c.args.keywords.now c.args.document.now c.in-Ok.root (node_tree c.in-Ok.root) c.in-Ok.ensures.read c.in-Err-compile.error c.of_keyword.result c.of_keyword.ensures c.in-Err-compile.ensures.free t stands le
+
+pub returns-in-Err-compile-clause-refused : goal.returns-in-Err-compile-clause-refused
+returns-in-Err-compile-clause-refused c = λ t stands le _. keyword_refused_with_memory c.args.keywords.now c.args.document.now c.in-Ok.root (node_tree c.in-Ok.root) c.in-Ok.ensures.read c.in-Err-compile.error c.of_keyword.result c.of_keyword.ensures c.in-Err-compile.ensures.free t stands le
+
+pub returns-in-Err-root-clause-refused : goal.returns-in-Err-root-clause-refused
+returns-in-Err-root-clause-refused c = λ t stands le never _. not_refused c.args.keywords.now c.args.document.now c.in-Ok.root (node_tree c.in-Ok.root) c.in-Ok.ensures.read c.in-Ok-compile.checks c.in-Ok-compile.ensures.right t stands never

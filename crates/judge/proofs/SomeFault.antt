@@ -1,0 +1,145 @@
+-- Each keyword tree has its first fault, or none: the form of each member is decided.
+use Rattle.std.proofs.Common.{◌≡◌, ◌⊎◌, inl, inr, ℕ, zero, suc, List, [], ◌∷◌, take, Option, Some, None, refl, pos}
+use Rattle.std.specs.Prelude.{IsSome, IsSomeAnd, slice_get}
+use Rattle.std.specs.List.{AllByRecursion}
+use Rattle.json_model.specs.Decimal.{Decimal}
+use Rattle.json_model.specs.Parts.{as_array, as_number, as_object, as_string, pairs_of}
+use Rattle.json_model.specs.Tree.{Tree, scalar, array, object}
+use Rattle.json_traits.specs.Names.{name_of}
+use Rattle.json_traits.specs.Numbers.{whole}
+use Rattle.judge.specs.Names.{keyword_of}
+use Rattle.judge.specs.Validity.{AreDistinct, AreNames, AreTypeNames, HasFault, HasForm, IsBad, IsBuilt, IsCount, IsFair, IsFirst, IsTypeName, IsUnbuilt, IsUnknown}
+use Rattle.judge.specs.Verdict.{IsNameOf}
+use Rattle.judge.specs.declared.errors.KeywordError.{KeywordError}
+use Rattle.judge.specs.declared.errors.KeywordError.TheVariants as keyword
+use Rattle.judge.specs.declared.keyword.Keyword.{Keyword}
+use Rattle.judge.specs.declared.keyword.Keyword.TheVariants.{«Type», Enum, Const, Minimum, Maximum, ExclusiveMinimum, ExclusiveMaximum, MinLength, MaxLength, MinItems, MaxItems, MinProperties, MaxProperties, UniqueItems, Required, Pattern}
+use Rattle.judge.proofs.Decided.{Decided, decided_all, decided_and, decided_below, decided_both, decided_either, decided_filled, decided_not, decided_some, decided_type, decided_whole, same_texts}
+
+-- ---- the forms
+
+decided_distinct : (vs : List Tree) → Decided (AreDistinct vs)
+decided_distinct [] = inl tt
+decided_distinct (v ∷ vs) = decided_both (decided_all (λ u. as_string u ≡ as_string v → ⊥) (λ u. decided_not (same_texts (as_string u) (as_string v))) vs) (decided_distinct vs)
+
+decided_type_name : (v : Tree) → Decided (IsTypeName v)
+decided_type_name v = decided_type (λ t. IsNameOf t v) (λ t. same_texts (as_string v) (Some (name_of t)))
+
+decided_type_names : (vs : List Tree) → Decided (AreTypeNames vs)
+decided_type_names vs = three (decided_filled vs) (decided_all IsTypeName decided_type_name vs) (decided_distinct vs)
+  where
+    three : {P Q R : Type 0} → Decided P → Decided Q → Decided R → Decided (P × Q × R)
+    three (inl p) (inl q) (inl r) = inl (p, q, r)
+    three (inl p) (inl q) (inr n) = inr (λ h. n h.2)
+    three (inl p) (inr n) r = inr (λ h. n h.1)
+    three (inr n) q r = inr (λ h. n h.0)
+
+decided_names : (vs : List Tree) → Decided (AreNames vs)
+decided_names vs = decided_both (decided_all (λ v. IsSome (as_string v)) (λ v. decided_some (as_string v)) vs) (decided_distinct vs)
+
+decided_count : (m : Decimal) → Decided (IsCount m)
+decided_count m = decided_both (decided_whole m) (decided_not (decided_below m (whole (pos 0))))
+
+decided_limit : (v : Tree) → Decided (IsSomeAnd (as_number v) IsCount)
+decided_limit v = decided_and IsCount decided_count (as_number v)
+
+decided_form : (w : Keyword) (v : Tree) → Decided (HasForm w v)
+decided_form «Type» v = decided_either (decided_type_name v) (decided_and AreTypeNames decided_type_names (as_array v))
+decided_form Minimum v = decided_some (as_number v)
+decided_form Maximum v = decided_some (as_number v)
+decided_form ExclusiveMinimum v = decided_some (as_number v)
+decided_form ExclusiveMaximum v = decided_some (as_number v)
+decided_form MinLength v = decided_limit v
+decided_form MaxLength v = decided_limit v
+decided_form MinItems v = decided_limit v
+decided_form MaxItems v = decided_limit v
+decided_form MinProperties v = decided_limit v
+decided_form MaxProperties v = decided_limit v
+decided_form Required v = decided_and AreNames decided_names (as_array v)
+decided_form Enum v = inl tt
+decided_form Const v = inl tt
+decided_form UniqueItems v = inl tt
+decided_form Pattern v = inl tt
+
+decided_built : (w : Keyword) (v : Tree) → Decided (IsBuilt w v)
+decided_built «Type» v = inl tt
+decided_built Minimum v = inl tt
+decided_built Maximum v = inl tt
+decided_built ExclusiveMinimum v = inl tt
+decided_built ExclusiveMaximum v = inl tt
+decided_built MinLength v = inl tt
+decided_built MaxLength v = inl tt
+decided_built MinItems v = inl tt
+decided_built MaxItems v = inl tt
+decided_built MinProperties v = inl tt
+decided_built MaxProperties v = inl tt
+decided_built Required v = inl tt
+decided_built Enum v = inr (λ h. h)
+decided_built Const v = inr (λ h. h)
+decided_built UniqueItems v = inr (λ h. h)
+decided_built Pattern v = inr (λ h. h)
+
+-- ---- a member has no fault, or one of the three
+
+abbrev Pair : Type 0
+Pair = List ℕ × Tree
+
+abbrev IsFaulty : Pair → Type 0
+IsFaulty p = IsUnknown p ⊎ (IsUnbuilt p ⊎ IsBad p)
+
+by_form : (w : Keyword) (v : Tree) → Decided (IsBuilt w v) → Decided (HasForm w v) → (IsBuilt w v × HasForm w v) ⊎ ((IsBuilt w v → ⊥) ⊎ (IsBuilt w v × (HasForm w v → ⊥)))
+by_form w v (inl built) (inl form) = inl (built, form)
+by_form w v (inl built) (inr bad) = inr (inr (built, bad))
+by_form w v (inr unbuilt) form = inr (inl unbuilt)
+
+by_keyword : (o : Option Keyword) (v : Tree)
+    → IsSomeAnd o (λ w. IsBuilt w v × HasForm w v) ⊎ ((o ≡ None) ⊎ (IsSomeAnd o (λ w. (IsBuilt w v → ⊥)) ⊎ IsSomeAnd o (λ w. IsBuilt w v × (HasForm w v → ⊥))))
+by_keyword None v = inr (inl refl)
+by_keyword (Some w) v = elim (by_form w v (decided_built w v) (decided_form w v)) [ inl fair ↦ inl fair | inr fault ↦ inr (inr fault) ]
+
+fair_or_faulty : (p : Pair) → IsFair p ⊎ IsFaulty p
+fair_or_faulty p = by_keyword (keyword_of p.0) p.1
+
+-- ---- the first fault
+
+-- pair number m is P, and each before it is fair
+abbrev FirstIn : List Pair → ℕ → (Pair → Type 0) → Type 0
+FirstIn ps m P = AllByRecursion IsFair (take m ps) × IsSomeAnd (slice_get ps m) P
+
+all_or_first : (ps : List Pair) → AllByRecursion IsFair ps ⊎ ((m : ℕ) × FirstIn ps m IsFaulty)
+all_or_first [] = inl tt
+all_or_first (p ∷ ps) = elim (fair_or_faulty p) [
+  | inl fair ↦ elim (all_or_first ps) [
+    | inl all ↦ inl (fair, all)
+    | inr first ↦ inr (suc first.0, ((fair, first.1.0), first.1.1))
+  ]
+  | inr faulty ↦ inr (zero, (tt, faulty))
+]
+
+one_of_and : {A : Type 0} (o : Option A) (P Q R : A → Type 0) → IsSomeAnd o (λ a. P a ⊎ (Q a ⊎ R a)) → IsSomeAnd o P ⊎ (IsSomeAnd o Q ⊎ IsSomeAnd o R)
+one_of_and None P Q R h = absurd h
+one_of_and (Some a) P Q R h = h
+
+module _ (t : Tree) (is : IsSome (as_object t)) where
+  first_is : (m : ℕ) (P : Pair → Type 0) → AllByRecursion IsFair (take m (pairs_of t)) → IsSomeAnd (slice_get (pairs_of t) m) P → IsFirst t m P
+  first_is m P before here = record { object = is; before = before; here = here }
+
+  of_first : (m : ℕ) → FirstIn (pairs_of t) m IsFaulty → (f : Option KeywordError) × HasFault t f
+  of_first m (before, here) = elim (one_of_and (slice_get (pairs_of t) m) IsUnknown IsUnbuilt IsBad here) [
+    | inl unknown ↦ (Some (keyword.UnknownKeyword m), first_is m IsUnknown before unknown)
+    | inr rest ↦ elim rest [
+      | inl unbuilt ↦ (Some keyword.Unbuilt, (m, first_is m IsUnbuilt before unbuilt))
+      | inr bad ↦ (Some (keyword.BadKeyword m), first_is m IsBad before bad)
+    ]
+  ]
+
+  of_object : (f : Option KeywordError) × HasFault t f
+  of_object = elim (all_or_first (pairs_of t)) [
+    | inl all ↦ (None, record { object = is; fair = all })
+    | inr first ↦ of_first first.0 first.1
+  ]
+
+pub some_fault : (t : Tree) → (f : Option KeywordError) × HasFault t f
+some_fault (scalar s) = (Some keyword.NotAnObject, refl)
+some_fault (array ts) = (Some keyword.NotAnObject, refl)
+some_fault (object ms) = of_object (object ms) refl

@@ -1,0 +1,84 @@
+-- Each pair of trees has a verdict: whether a document meets a keyword is decided.
+use Rattle.std.proofs.Common.{inl, inr, ℕ, List, [], ◌∷◌, Bool, Option, Some, pos}
+use Rattle.std.specs.Prelude.{◌↔◌, IfSome, IsTrue, IsSome}
+use Rattle.std.specs.List.{AllByRecursion}
+use Rattle.json_model.specs.Decimal.{Decimal, IsBelow}
+use Rattle.json_model.specs.Parts.{as_number, as_object, as_string, elements_of, is_number, lookup, pairs_of}
+use Rattle.json_model.specs.Tree.{Tree}
+use Rattle.json_traits.specs.Allowed.{IsOfType}
+use Rattle.json_traits.specs.Kinds.{type_of}
+use Rattle.json_traits.specs.Names.{name_of}
+use Rattle.json_traits.specs.Numbers.{decimal_in, whole}
+use Rattle.json_traits.specs.declared.types.json_type.JsonType.{JsonType}
+use Rattle.json_traits.specs.declared.types.json_type.JsonType.TheVariants.{Integer}
+use Rattle.judge.specs.Names.{keyword_of}
+use Rattle.judge.specs.Verdict.{Holds, HoldsAt, IsAmong, IsKeyOf, IsNamed, IsUpTo, Reaches, Verdict, items_of, length_of, members_of}
+use Rattle.judge.specs.declared.keyword.Keyword.{Keyword}
+use Rattle.judge.specs.declared.keyword.Keyword.TheVariants.{«Type», Enum, Const, Minimum, Maximum, ExclusiveMinimum, ExclusiveMaximum, MinLength, MaxLength, MinItems, MaxItems, MinProperties, MaxProperties, UniqueItems, Required, Pattern}
+use Rattle.judge.proofs.Decided.{Decided, decided_all, decided_below, decided_both, decided_either, decided_if, decided_not, decided_some, decided_true, decided_type, decided_whole, same_texts, same_type, truth_of}
+
+-- ---- types
+
+decided_among : (s : List ℕ) (vs : List Tree) → Decided (IsAmong s vs)
+decided_among s [] = inr (λ h. h)
+decided_among s (v ∷ vs) = decided_either (same_texts (as_string v) (Some s)) (decided_among s vs)
+
+decided_named : (t : JsonType) (v : Tree) → Decided (IsNamed t v)
+decided_named t v = decided_either (same_texts (as_string v) (Some (name_of t))) (decided_among (name_of t) (elements_of v))
+
+decided_of_type : (d : Tree) (t : JsonType) → Decided (IsOfType d t)
+decided_of_type d t = decided_either (same_type t (type_of d)) (decided_both (same_type t Integer) (decided_both (decided_true (is_number d)) (decided_whole (decimal_in d))))
+
+-- one of the named types is the document's
+decided_types : (v d : Tree) → Decided ((t : JsonType) × IsNamed t v × IsOfType d t)
+decided_types v d = elim (decided_type (λ t. IsNamed t v × IsOfType d t) (λ t. decided_both (decided_named t v) (decided_of_type d t))) [
+  | inl h ↦ inl (h.0, h.1.0, h.1.1)
+  | inr n ↦ inr (λ h. n (h.0, (h.1, h.2)))
+]
+
+-- ---- bounds and counts
+
+-- two numbers, where both trees are numbers
+decided_bound : (R : Decimal → Decimal → Type 0) → ((m x : Decimal) → Decided (R m x)) → (v d : Tree) → Decided (IfSome (as_number v) (λ m. IfSome (as_number d) (R m)))
+decided_bound R h v d = decided_if (λ m. IfSome (as_number d) (R m)) (λ m. decided_if (R m) (h m) (as_number d)) (as_number v)
+
+-- a number and a count
+decided_limit : (R : Decimal → ℕ → Type 0) → ((m : Decimal) (n : ℕ) → Decided (R m n)) → (v : Tree) (count : Option ℕ) → Decided (IfSome (as_number v) (λ m. IfSome count (R m)))
+decided_limit R h v count = decided_if (λ m. IfSome count (R m)) (λ m. decided_if (R m) (h m) count) (as_number v)
+
+decided_reaches : (m : Decimal) (n : ℕ) → Decided (Reaches m n)
+decided_reaches m n = decided_not (decided_below (whole (pos n)) m)
+
+decided_up_to : (m : Decimal) (n : ℕ) → Decided (IsUpTo m n)
+decided_up_to m n = decided_not (decided_below m (whole (pos n)))
+
+-- ---- names
+
+decided_key : (ps : List (List ℕ × Tree)) (v : Tree) → Decided (IsKeyOf ps v)
+decided_key ps v = decided_if (λ s. IsSome (lookup s ps)) (λ s. decided_some (lookup s ps)) (as_string v)
+
+-- ---- each keyword
+
+decided_holds : (w : Keyword) (v d : Tree) → Decided (Holds w v d)
+decided_holds «Type» v d = decided_types v d
+decided_holds Minimum v d = decided_bound (λ m x. IsBelow x m → ⊥) (λ m x. decided_not (decided_below x m)) v d
+decided_holds Maximum v d = decided_bound (λ m x. IsBelow m x → ⊥) (λ m x. decided_not (decided_below m x)) v d
+decided_holds ExclusiveMinimum v d = decided_bound IsBelow decided_below v d
+decided_holds ExclusiveMaximum v d = decided_bound (λ m x. IsBelow x m) (λ m x. decided_below x m) v d
+decided_holds MinLength v d = decided_limit Reaches decided_reaches v (length_of d)
+decided_holds MaxLength v d = decided_limit IsUpTo decided_up_to v (length_of d)
+decided_holds MinItems v d = decided_limit Reaches decided_reaches v (items_of d)
+decided_holds MaxItems v d = decided_limit IsUpTo decided_up_to v (items_of d)
+decided_holds MinProperties v d = decided_limit Reaches decided_reaches v (members_of d)
+decided_holds MaxProperties v d = decided_limit IsUpTo decided_up_to v (members_of d)
+decided_holds Required v d = decided_if (λ ps. AllByRecursion (IsKeyOf ps) (elements_of v)) (λ ps. decided_all (IsKeyOf ps) (decided_key ps) (elements_of v)) (as_object d)
+decided_holds Enum v d = inl tt
+decided_holds Const v d = inl tt
+decided_holds UniqueItems v d = inl tt
+decided_holds Pattern v d = inl tt
+
+decided_at : (d : Tree) (p : List ℕ × Tree) → Decided (HoldsAt d p)
+decided_at d p = decided_if (λ w. Holds w p.1 d) (λ w. decided_holds w p.1 d) (keyword_of p.0)
+
+pub some_verdict : (k d : Tree) → (b : Bool) × (IsTrue b ↔ Verdict k d)
+some_verdict k d = truth_of (decided_all (HoldsAt d) (decided_at d) (pairs_of k))

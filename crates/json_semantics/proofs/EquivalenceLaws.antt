@@ -74,8 +74,8 @@ mutual
   places_turned (member k t ms) no_members e f s = absurd s
   places_turned (member k t ms) (member l u ns) e f s = (sym s.0, same_turned t u e.0 f.0 s.1, places_turned ms ns e.1 f.1 s.2)
 
--- what is the same as the same tree is the same
-same_value_chain : (a b c : Decimal) → IsSameValue a b → IsSameValue b c → IsSameValue a c
+-- what is worth as much as something of the same worth is worth as much
+pub same_value_chain : (a b c : Decimal) → IsSameValue a b → IsSameValue b c → IsSameValue a c
 same_value_chain a b c s r =
     cancel (a.digits *ℤ pos (10 ^ c.places)) (c.digits *ℤ pos (10 ^ a.places)) (10 ^ b.places) (ten_pos b.places)
     (turn a.digits (10 ^ c.places) (10 ^ b.places) ∙ ap (λ (z : ℤ). z *ℤ pos (10 ^ c.places)) s ∙ turn b.digits (10 ^ a.places) (10 ^ c.places)

@@ -1,5 +1,6 @@
 -- What compiled limits ask of numbers and of counts.
-use Rattle.std.proofs.Common.{◌≡◌, ◌⊎◌, inl, inr, ℕ, ◌*◌, ◌^◌, Bool, true, false, sym, ap, subst, ◌∙◌, ℤ, pos, is_lt}
+use Rattle.std.proofs.Common.{◌≡◌, ◌⊎◌, inl, inr, ℕ, ◌*◌, ◌^◌, ◌<◌, ◌≤◌, Bool, true, false, sym, ap, subst, ◌∙◌, ℤ, pos, is_lt, arith}
+use Rattle.std.proofs.lemmas.Int.{ints}
 use Rattle.std.specs.Prelude.{◌*ℤ◌, ◌<ℤ◌, ◌↔◌, IsTrue}
 use Rattle.std.specs.Int.Signed.{<ℤ_irrefl}
 use Rattle.std.specs.Ordering.{MatchOrdering, int_cmp}
@@ -18,12 +19,13 @@ use Rattle.json_semantics.specs.declared.numeric_check.BoundOp.{BoundOp}
 use Rattle.json_semantics.specs.declared.numeric_check.BoundOp.TheVariants.{Lt, Lte, Gt, Gte}
 use Rattle.json_semantics.specs.declared.numeric_check.CompiledBound.{CompiledBound}
 use Rattle.json_traits.specs.Numbers.{whole}
-use Rattle.judge.specs.Passes.{Asks, IsBoundOf}
+use Rattle.judge.specs.Passes.{IsBoundOf, IsLimitOf}
+use Rattle.judge.specs.declared.limits.Limit.TheVariants.{Small, Large}
 use Rattle.judge.specs.Validity.{IsCount}
 use Rattle.judge.specs.Verdict.{Reaches, IsUpTo}
 
 -- at most is not above
-at_most : (x y : ℤ) → ((x <ℤ y) ⊎ (x ≡ y)) ↔ (y <ℤ x → ⊥)
+pub at_most : (x y : ℤ) → ((x <ℤ y) ⊎ (x ≡ y)) ↔ (y <ℤ x → ⊥)
 at_most x y = (
   λ h g. elim h [
     | inl l ↦ <ℤ_irrefl (int_chain x y x l g)
@@ -69,25 +71,27 @@ limit_below d m x f =
           (up (m.digits *ℤ pos q) (x.digits *ℤ pos p) parts parts_pos h))),
     )
 
--- a number is at least a limit exactly where it is not below it
-at_least_limit : (d : ℤ) (m x : Written) → IsWorth d m → IsAtMost (exactly d) x ↔ (IsBelow x m → ⊥)
+-- a number is at least a limit exactly where it is at least what that is written as
+at_least_limit : (d : ℤ) (m x : Written) → IsWorth d m → IsAtMost (exactly d) x ↔ IsAtMost m x
 at_least_limit d m x f =
     let a = at_most ((exactly d).digits *ℤ pos (10 ^ x.places)) (x.digits *ℤ pos (10 ^ (exactly d).places)) in
+    let z = at_most (m.digits *ℤ pos (10 ^ x.places)) (x.digits *ℤ pos (10 ^ m.places)) in
     let b = below_limit d m x f in
-    (λ h g. a.0 h (b.1 g), λ h. a.1 (λ g. h (b.0 g)))
+    (λ h. z.1 (λ g. a.0 h (b.1 g)), λ h. a.1 (λ g. z.0 h (b.0 g)))
 
--- and at most one where it is not above it
-at_most_limit : (d : ℤ) (m x : Written) → IsWorth d m → IsAtMost x (exactly d) ↔ (IsBelow m x → ⊥)
+-- and at most one exactly where it is at most that
+at_most_limit : (d : ℤ) (m x : Written) → IsWorth d m → IsAtMost x (exactly d) ↔ IsAtMost x m
 at_most_limit d m x f =
     let a = at_most (x.digits *ℤ pos (10 ^ (exactly d).places)) ((exactly d).digits *ℤ pos (10 ^ x.places)) in
+    let z = at_most (x.digits *ℤ pos (10 ^ m.places)) (m.digits *ℤ pos (10 ^ x.places)) in
     let b = limit_below d m x f in
-    (λ h g. a.0 h (b.1 g), λ h. a.1 (λ g. h (b.0 g)))
+    (λ h. z.1 (λ g. a.0 h (b.1 g)), λ h. a.1 (λ g. z.0 h (b.0 g)))
 
 -- a compiled bound asks what its keyword asks
 pub is_bound : (op : BoundOp) (b : CompiledBound) (m : Written) → b.op ≡ op → IsWorth b.limit m → IsBoundOf op b m
-is_bound op b m e f = λ x. subst (λ (o : BoundOp). Keeps o x (exactly b.limit) ↔ Asks op x m) (sym e) (go op x)
+is_bound op b m e f = (e, λ x. subst (λ (o : BoundOp). Keeps o x (exactly b.limit) ↔ Keeps op x m) (sym e) (go op x))
   where
-    go : (o : BoundOp) (x : Written) → Keeps o x (exactly b.limit) ↔ Asks o x m
+    go : (o : BoundOp) (x : Written) → Keeps o x (exactly b.limit) ↔ Keeps o x m
     go Lt x = below_limit b.limit m x f
     go Lte x = at_most_limit b.limit m x f
     go Gt x = limit_below b.limit m x f
@@ -142,7 +146,48 @@ pub no_count : (d : ℤ) (m : Written) (z : ℤ) → IsWorth d m → z ≡ pos (
 no_count d m z f e h count = count.1 ((below_zero d m f).0 (subst (λ (y : ℤ). d <ℤ y) e (below_is d z h)))
 
 -- the others are
-pub is_limit : (d : ℤ) (m : Written) (b : Bool) (z : ℤ) → IsWorth d m → b ≡ true → (IsTrue b ↔ IsWhole (exactly d)) → z ≡ pos (0 * parts) → is_lt (int_cmp d z) ≡ false
-    → IsCount m × ((n : ℕ) → ((pos (n * parts) <ℤ d → ⊥) ↔ Reaches m n) × ((d <ℤ pos (n * parts) → ⊥) ↔ IsUpTo m n))
-is_limit d m b z f e h zero below =
-    (((whole_as_written d m f).0 (h.0 e), λ g. not_below d z below (subst (λ (y : ℤ). d <ℤ y) (sym zero) ((below_zero d m f).1 g))), λ n. (reaches d m f n, up_to d m f n))
+pub is_count : (d : ℤ) (m : Written) (b : Bool) (z : ℤ) → IsWorth d m → b ≡ true → (IsTrue b ↔ IsWhole (exactly d)) → z ≡ pos (0 * parts)
+    → is_lt (int_cmp d z) ≡ false → IsCount m
+is_count d m b z f e h zero below =
+    ((whole_as_written d m f).0 (h.0 e), λ g. not_below d z below (subst (λ (y : ℤ). d <ℤ y) (sym zero) ((below_zero d m f).1 g)))
+
+-- a limit that is kept as it stands
+pub is_large : (d : ℤ) (m : Written) → IsWorth d m → IsLimitOf (Large d) m
+is_large d m f n = (reaches d m f n, up_to d m f n)
+
+-- counts stand to each other as they do in parts
+below_in_parts : (a b : ℕ) → (pos (a * parts) <ℤ pos (b * parts)) ↔ (a < b)
+below_in_parts a b = (
+  λ h. number (down (pos a) (pos b) parts parts_pos (in_parts h)),
+  λ h. of_parts (up (pos a) (pos b) parts parts_pos (whole_number h)),
+)
+  where
+    number : pos a <ℤ pos b → a < b
+    number h = omega (arith, ints, h)
+
+    whole_number : a < b → pos a <ℤ pos b
+    whole_number h = omega (arith, ints, h)
+
+    in_parts : pos (a * parts) <ℤ pos (b * parts) → (pos a *ℤ pos parts) <ℤ (pos b *ℤ pos parts)
+    in_parts h = rw (pos-*ℤ-pos a parts, pos-*ℤ-pos b parts) h
+
+    of_parts : (pos a *ℤ pos parts) <ℤ (pos b *ℤ pos parts) → pos (a * parts) <ℤ pos (b * parts)
+    of_parts h = rw (← pos-*ℤ-pos a parts, ← pos-*ℤ-pos b parts) h
+
+-- a limit that is kept as a word
+pub is_small : (l : ℕ) (d : ℤ) (m : Written) → d ≡ pos (l * parts) → IsWorth d m → IsLimitOf (Small l) m
+is_small l d m e f n =
+    let p : IsWorth (pos (l * parts)) m = subst (λ (z : ℤ). IsWorth z m) e f in
+    let r = reaches (pos (l * parts)) m p n in
+    let u = up_to (pos (l * parts)) m p n in
+    let least = below_in_parts n l in
+    let most = below_in_parts l n in (
+      (λ h. r.0 (λ g. above (least.0 g) h), λ h. not_above (λ g. r.1 h (least.1 g))),
+      (λ h. u.0 (λ g. above (most.0 g) h), λ h. not_above (λ g. u.1 h (most.1 g))),
+    )
+  where
+    above : {a b : ℕ} → a < b → b ≤ a → ⊥
+    above h g = omega (arith, h, g)
+
+    not_above : {a b : ℕ} → (a < b → ⊥) → b ≤ a
+    not_above h = omega (arith, h)

@@ -17,7 +17,8 @@ use Rattle.judge.specs.declared.checks.Checks.{Checks}
 use Rattle.judge.specs.declared.errors.KeywordError.{KeywordError}
 use Rattle.judge.specs.declared.errors.KeywordError.TheVariants.{NotAnObject, UnknownKeyword, BadKeyword, Unbuilt, OutOfMemory}
 use Rattle.judge.specs.declared.keyword.Keyword.{Keyword}
-use Rattle.judge.specs.declared.keyword.Keyword.TheVariants.{«Type», Enum, Const, Minimum, Maximum, ExclusiveMinimum, ExclusiveMaximum, MinLength, MaxLength, MinItems, MaxItems, MinProperties, MaxProperties, UniqueItems, Required, Pattern}
+use Rattle.judge.proofs.KeywordNames.{one_name}
+use Rattle.judge.specs.declared.keyword.Keyword.TheVariants.{Required}
 use Rattle.json_model.proofs.KeyOrderLaws.{rises_all, rises_tail, not_before}
 
 abbrev pub Pair : Type 0
@@ -35,48 +36,6 @@ all_front P (x ∷ xs) y h = let r = all_front P xs y h.1 in ((h.0, r.0), r.1)
 
 -- ---- a key is no key before it
 
--- each keyword has one name
-abbrev name_of : Keyword → List ℕ
-name_of «Type» = codes "type"
-name_of Enum = codes "enum"
-name_of Const = codes "const"
-name_of Minimum = codes "minimum"
-name_of Maximum = codes "maximum"
-name_of ExclusiveMinimum = codes "exclusiveMinimum"
-name_of ExclusiveMaximum = codes "exclusiveMaximum"
-name_of MinLength = codes "minLength"
-name_of MaxLength = codes "maxLength"
-name_of MinItems = codes "minItems"
-name_of MaxItems = codes "maxItems"
-name_of MinProperties = codes "minProperties"
-name_of MaxProperties = codes "maxProperties"
-name_of UniqueItems = codes "uniqueItems"
-name_of Required = codes "required"
-name_of Pattern = codes "pattern"
-
-one_name : (b : Bool) (a n : List ℕ) (x w : Keyword) (rest : Option Keyword) → (b ≡ true → a ≡ n) → n ≡ name_of x → (rest ≡ Some w → a ≡ name_of w) → cond b (Some x) rest ≡ Some w → a ≡ name_of w
-one_name true a n x w rest f e r h = let s : x ≡ w = cc in f refl ∙ e ∙ ap name_of s
-one_name false a n x w rest f e r h = r h
-
-key_is : (a : List ℕ) (w : Keyword) → keyword_of a ≡ Some w → a ≡ name_of w
-key_is a w =
-    one_name _ a _ «Type» w _ (bytes_eq-Decides a (codes "type")).0 refl (
-    one_name _ a _ Enum w _ (bytes_eq-Decides a (codes "enum")).0 refl (
-    one_name _ a _ Const w _ (bytes_eq-Decides a (codes "const")).0 refl (
-    one_name _ a _ Minimum w _ (bytes_eq-Decides a (codes "minimum")).0 refl (
-    one_name _ a _ Maximum w _ (bytes_eq-Decides a (codes "maximum")).0 refl (
-    one_name _ a _ ExclusiveMinimum w _ (bytes_eq-Decides a (codes "exclusiveMinimum")).0 refl (
-    one_name _ a _ ExclusiveMaximum w _ (bytes_eq-Decides a (codes "exclusiveMaximum")).0 refl (
-    one_name _ a _ MinLength w _ (bytes_eq-Decides a (codes "minLength")).0 refl (
-    one_name _ a _ MaxLength w _ (bytes_eq-Decides a (codes "maxLength")).0 refl (
-    one_name _ a _ MinItems w _ (bytes_eq-Decides a (codes "minItems")).0 refl (
-    one_name _ a _ MaxItems w _ (bytes_eq-Decides a (codes "maxItems")).0 refl (
-    one_name _ a _ MinProperties w _ (bytes_eq-Decides a (codes "minProperties")).0 refl (
-    one_name _ a _ MaxProperties w _ (bytes_eq-Decides a (codes "maxProperties")).0 refl (
-    one_name _ a _ UniqueItems w _ (bytes_eq-Decides a (codes "uniqueItems")).0 refl (
-    one_name _ a _ Required w _ (bytes_eq-Decides a (codes "required")).0 refl (
-    one_name _ a _ Pattern w _ (bytes_eq-Decides a (codes "pattern")).0 refl (λ h. cc))))))))))))))))
-
 at_place : (P : List ℕ → Type 0) (ps : List Pair) (k : ℕ) (p : Pair) → AllByRecursion P (map (λ (q : Pair). q.0) ps) → slice_get ps k ≡ Some p → P p.0
 at_place P [] k p h e = absurd (let z : None ≡ Some p = sym (slice_get_past [] k (omega arith)) ∙ e in cc)
 at_place P (x ∷ xs) zero p h e = let s : x ≡ p = cc in subst (λ (q : Pair). P q.0) s h.0
@@ -92,7 +51,7 @@ new_key ps k p w h at e = go ps k h at.here
     go (x ∷ xs) zero h is = tt
     go (x ∷ xs) (suc k) h is =
         let keys = map (λ (q : Pair). q.0) xs in (
-          λ same. not_before x.0 p.0 (at_place (λ y. key_before x.0 y ≡ true) xs k p (rises_all x.0 keys h) is) (key_is x.0 w same ∙ sym (key_is p.0 w e)),
+          λ same. not_before x.0 p.0 (at_place (λ y. key_before x.0 y ≡ true) xs k p (rises_all x.0 keys h) is) (one_name x.0 p.0 w same e),
           go xs k (rises_tail x.0 keys h) is,
         )
 
@@ -100,7 +59,7 @@ new_key ps k p w h at e = go ps k h at.here
 
 pub added : (old new : Checks) (w : Keyword) (p : Pair) → keyword_of p.0 ≡ Some w → Adds old w p.1 new → Took old p new
 added old new w p e a = record {
-  fair = rw e (a.built, a.form);
+  fair = rw e a.form;
   passes = λ d. (λ h. let r = (a.passes d).0 h in (r.0, rw e r.1), λ h. (a.passes d).1 (h.0, hold d h.1));
   frees = λ u other free. a.frees u (λ same. other (e ∙ ap (λ (v : Keyword). let o : Option Keyword = Some v in o) (sym same))) free;
 }
@@ -111,8 +70,8 @@ added old new w p e a = record {
 pub refused : (m : ℕ) (w : Keyword) (p : Pair) (e : KeywordError) → keyword_of p.0 ≡ Some w → AddFault m w p.1 e → IsFault m p e
 refused m w p NotAnObject is f = f
 refused m w p (UnknownKeyword n) is f = absurd f
-refused m w p (BadKeyword n) is f = (f.0, rw is (f.1, f.2))
-refused m w p Unbuilt is f = rw is f
+refused m w p (BadKeyword n) is f = (f.0, rw is f.1)
+refused m w p Unbuilt is f = absurd f
 refused m w p OutOfMemory is f = (is ∙ ap (λ (v : Keyword). let o : Option Keyword = Some v in o) f.0, f.1)
 
 -- ---- all members

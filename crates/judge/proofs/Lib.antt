@@ -1,3 +1,5 @@
+pub mod KeywordNames
+pub mod Adding
 pub mod Answering
 pub mod BoundLaws
 pub mod Compiling

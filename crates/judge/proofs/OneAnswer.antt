@@ -58,13 +58,13 @@ both_and None Q R f h k = h
 both_and (Some a) Q R f h k = f a h k
 
 unknown : Faulty IsUnknown
-unknown p h f = none_and (keyword_of p.0) _ h f
+unknown p h f = none_and (keyword_of p.0) _ h.0 f
 
 unbuilt : Faulty IsUnbuilt
-unbuilt p h f = both_and (keyword_of p.0) _ _ (λ w q r. q r.0) h f
+unbuilt p h f = none_and (keyword_of p.0) _ h.0 f
 
 bad : Faulty IsBad
-bad p h f = both_and (keyword_of p.0) _ _ (λ w q r. q.1 r.1) h f
+bad p h f = both_and (keyword_of p.0) _ _ (λ w q r. q r) h f
 
 -- two first faults are at one place
 same_place : (t : Tree) (m n : ℕ) (P Q : Pair → Type 0) → Faulty P → Faulty Q → IsFirst t m P → IsFirst t n Q → m ≡ n
@@ -97,13 +97,13 @@ no_object : (t : Tree) → as_object t ≡ None → IsSome (as_object t) → ⊥
 no_object t e h = gone (as_object t) e h
 
 unknown_unbuilt : (p : Pair) → IsUnknown p → IsUnbuilt p → ⊥
-unknown_unbuilt p h k = none_and (keyword_of p.0) _ h k
+unknown_unbuilt p h k = h.1 k.1
 
 unknown_bad : (p : Pair) → IsUnknown p → IsBad p → ⊥
-unknown_bad p h k = none_and (keyword_of p.0) _ h k
+unknown_bad p h k = none_and (keyword_of p.0) _ h.0 k
 
 unbuilt_bad : (p : Pair) → IsUnbuilt p → IsBad p → ⊥
-unbuilt_bad p h k = both_and (keyword_of p.0) _ _ (λ w q r. q r.0) h k
+unbuilt_bad p h k = none_and (keyword_of p.0) _ h.0 k
 
 abbrev Fault : Type 0
 Fault = Option KeywordError

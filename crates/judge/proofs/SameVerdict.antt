@@ -13,14 +13,19 @@ use Rattle.json_model.specs.Parts.{as_number, as_string, elements_of, lookup, pa
 use Rattle.json_model.specs.Rising.{KeysRise}
 use Rattle.json_model.specs.Same.{Same, SameElements, SameMembers}
 use Rattle.json_model.specs.Tree.{null, boolean, number, string, Tree, scalar, array, object, Elements, no_elements, element, Members, no_members, member}
-use Rattle.json_semantics.proofs.EquivalenceLaws.{same_turned}
+use Rattle.json_semantics.proofs.EquivalenceLaws.{same_turned, same_value_chain}
 use Rattle.json_traits.specs.Allowed.{IsInteger, IsOfType}
 use Rattle.json_traits.specs.Kinds.{type_of}
 use Rattle.json_traits.specs.declared.types.json_type.JsonType.{JsonType}
 use Rattle.judge.specs.Names.{keyword_of}
-use Rattle.judge.specs.Verdict.{Holds, HoldsAt, IsKeyOf, IsUpTo, Reaches, Verdict, items_of, length_of, members_of}
+use Rattle.judge.specs.Verdict.{Holds, HoldsAt, IsKeyOf, IsUpTo, Reaches, Verdict, count_of}
 use Rattle.judge.specs.declared.keyword.Keyword.{Keyword}
-use Rattle.judge.specs.declared.keyword.Keyword.TheVariants.{«Type», Enum, Const, Minimum, Maximum, ExclusiveMinimum, ExclusiveMaximum, MinLength, MaxLength, MinItems, MaxItems, MinProperties, MaxProperties, UniqueItems, Required, Pattern}
+use Rattle.judge.specs.declared.keyword.Keyword.TheVariants.{«Type», Bound, Least, Greatest, Required}
+use Rattle.judge.specs.declared.keyword.Measure.{Measure}
+use Rattle.judge.specs.declared.keyword.Measure.TheVariants as counted_as
+use Rattle.json_semantics.specs.Bounds.{Keeps}
+use Rattle.json_semantics.specs.declared.numeric_check.BoundOp.{BoundOp}
+use Rattle.json_semantics.specs.declared.numeric_check.BoundOp.TheVariants.{Lt, Lte, Gt, Gte}
 
 -- ---- numbers of one value
 
@@ -47,6 +52,10 @@ above_on m x y s h =
     down (m.digits *ℤ pos r) (y.digits *ℤ pos p) q (ten_pos x.places)
     (subst (λ (z : ℤ). z <ℤ ((y.digits *ℤ pos p) *ℤ pos q)) left (subst (λ (z : ℤ). ((m.digits *ℤ pos q) *ℤ pos r) <ℤ z) right
     (up (m.digits *ℤ pos q) (x.digits *ℤ pos p) r (ten_pos y.places) h)))
+
+-- what x equals, y equals
+same_on : (m x y : Decimal) → IsSameValue x y → IsSameValue x m → IsSameValue y m
+same_on m x y s h = same_value_chain y x m (sym s) h
 
 -- where x is whole, y is
 whole_on : (x y : Decimal) → IsSameValue x y → IsWhole x → IsWhole y
@@ -105,14 +114,14 @@ as_many (element t ts) (element u us) s = ap suc (as_many ts us s.1)
 abbrev counted : ℕ → Option ℕ
 counted n = Some n
 
-one_length : (d e : Tree) → Same d e → length_of d ≡ length_of e
-one_length d e s = ap (λ (o : Option (List ℕ)). option_map (λ (t : List ℕ). length (points t)) o) (one_string d e s)
-
-one_items : (d e : Tree) → Same d e → items_of d ≡ items_of e
-one_items = by_kind (λ d e. items_of d ≡ items_of e) refl (λ a b s. refl) (λ x y s. refl) (λ a b s. refl) (λ ts us s. ap counted (as_many ts us s)) (λ ms ns n s. refl)
-
-one_members : (d e : Tree) → Same d e → members_of d ≡ members_of e
-one_members = by_kind (λ d e. members_of d ≡ members_of e) refl (λ a b s. refl) (λ x y s. refl) (λ a b s. refl) (λ ts us s. refl) (λ ms ns n s. ap counted n)
+-- and as many of whatever is counted
+one_count : (measure : Measure) (d e : Tree) → Same d e → count_of measure d ≡ count_of measure e
+one_count counted_as.CodePoints d e s =
+    ap (λ (o : Option (List ℕ)). option_map (λ (t : List ℕ). length (points t)) o) (one_string d e s)
+one_count counted_as.Elements d e s = by_kind (λ d e. count_of counted_as.Elements d ≡ count_of counted_as.Elements e)
+    refl (λ a b s. refl) (λ x y s. refl) (λ a b s. refl) (λ ts us s. ap counted (as_many ts us s)) (λ ms ns n s. refl) d e s
+one_count counted_as.Members d e s = by_kind (λ d e. count_of counted_as.Members d ≡ count_of counted_as.Members e)
+    refl (λ a b s. refl) (λ x y s. refl) (λ a b s. refl) (λ ts us s. refl) (λ ms ns n s. ap counted n) d e s
 
 -- the same as a whole number is a whole number
 integer_on : (d e : Tree) → Same d e → IsInteger d → IsInteger e
@@ -164,24 +173,22 @@ bound_on R f v d e s h = IfSome_then (as_number v) h
 limit_on : (R : Decimal → ℕ → Type 0) (v : Tree) (o p : Option ℕ) → o ≡ p → IfSome (as_number v) (λ m. IfSome o (R m)) → IfSome (as_number v) (λ m. IfSome p (R m))
 limit_on R v o p e h = subst (λ (q : Option ℕ). IfSome (as_number v) (λ m. IfSome q (R m))) e h
 
+-- a number stands to a limit as each number of its value does
+keeps_on : (op : BoundOp) (m x y : Decimal) → IsSameValue x y → Keeps op x m → Keeps op y m
+keeps_on Lt m x y s h = below_on m x y s h
+keeps_on Lte m x y s (inl h) = inl (below_on m x y s h)
+keeps_on Lte m x y s (inr h) = inr (same_on m x y s h)
+keeps_on Gt m x y s h = above_on m x y s h
+keeps_on Gte m x y s (inl h) = inl (above_on m x y s h)
+keeps_on Gte m x y s (inr h) = inr (sym (same_on m x y s (sym h)))
+
 -- a keyword that d meets, e meets
 holds_on : (w : Keyword) (v d e : Tree) → Same d e → Holds w v d → Holds w v e
 holds_on «Type» v d e s h = (h.0, h.1, type_on d e h.0 s h.2)
-holds_on Minimum v d e s h = bound_on (λ m x. IsBelow x m → ⊥) (λ m x y s g b. g (below_on m y x (sym s) b)) v d e s h
-holds_on Maximum v d e s h = bound_on (λ m x. IsBelow m x → ⊥) (λ m x y s g b. g (above_on m y x (sym s) b)) v d e s h
-holds_on ExclusiveMinimum v d e s h = bound_on IsBelow above_on v d e s h
-holds_on ExclusiveMaximum v d e s h = bound_on (λ m x. IsBelow x m) below_on v d e s h
-holds_on MinLength v d e s h = limit_on Reaches v (length_of d) (length_of e) (one_length d e s) h
-holds_on MaxLength v d e s h = limit_on IsUpTo v (length_of d) (length_of e) (one_length d e s) h
-holds_on MinItems v d e s h = limit_on Reaches v (items_of d) (items_of e) (one_items d e s) h
-holds_on MaxItems v d e s h = limit_on IsUpTo v (items_of d) (items_of e) (one_items d e s) h
-holds_on MinProperties v d e s h = limit_on Reaches v (members_of d) (members_of e) (one_members d e s) h
-holds_on MaxProperties v d e s h = limit_on IsUpTo v (members_of d) (members_of e) (one_members d e s) h
+holds_on (Bound op) v d e s h = bound_on (λ m x. Keeps op x m) (keeps_on op) v d e s h
+holds_on (Least measure) v d e s h = limit_on Reaches v (count_of measure d) (count_of measure e) (one_count measure d e s) h
+holds_on (Greatest measure) v d e s h = limit_on IsUpTo v (count_of measure d) (count_of measure e) (one_count measure d e s) h
 holds_on Required v d e s h = required_on v d e s h
-holds_on Enum v d e s h = tt
-holds_on Const v d e s h = tt
-holds_on UniqueItems v d e s h = tt
-holds_on Pattern v d e s h = tt
 
 -- what d meets, e meets, in whatever order their members stand
 verdict_on : (ps : List (List ℕ × Tree)) (d e : Tree) → Same d e → AllByRecursion (HoldsAt d) ps → AllByRecursion (HoldsAt e) ps

@@ -1,20 +1,20 @@
 -- Each keyword tree has its first fault, or none: the form of each member is decided.
 use Rattle.std.proofs.Common.{◌≡◌, ◌⊎◌, inl, inr, ℕ, zero, suc, List, [], ◌∷◌, take, Option, Some, None, refl, pos}
-use Rattle.std.specs.Prelude.{IsSome, IsSomeAnd, slice_get}
-use Rattle.std.specs.List.{AllByRecursion}
+use Rattle.std.specs.Prelude.{IsSome, IsSomeAnd, bytes_eq, slice_get}
+use Rattle.std.specs.List.{AllByRecursion, list_any}
 use Rattle.json_model.specs.Decimal.{Decimal}
 use Rattle.json_model.specs.Parts.{as_array, as_number, as_object, as_string, pairs_of}
 use Rattle.json_model.specs.Tree.{Tree, scalar, array, object}
 use Rattle.json_traits.specs.Names.{name_of}
 use Rattle.json_traits.specs.Numbers.{whole}
-use Rattle.judge.specs.Names.{keyword_of}
-use Rattle.judge.specs.Validity.{AreDistinct, AreNames, AreTypeNames, HasFault, HasForm, IsBad, IsBuilt, IsCount, IsFair, IsFirst, IsTypeName, IsUnbuilt, IsUnknown}
+use Rattle.judge.specs.Names.{keyword_of, to_come}
+use Rattle.judge.specs.Validity.{AreDistinct, AreNames, AreTypeNames, HasFault, HasForm, IsBad, IsCount, IsFair, IsFirst, IsToCome, IsTypeName, IsUnbuilt, IsUnknown}
 use Rattle.judge.specs.Verdict.{IsNameOf}
 use Rattle.judge.specs.declared.errors.KeywordError.{KeywordError}
 use Rattle.judge.specs.declared.errors.KeywordError.TheVariants as keyword
 use Rattle.judge.specs.declared.keyword.Keyword.{Keyword}
-use Rattle.judge.specs.declared.keyword.Keyword.TheVariants.{«Type», Enum, Const, Minimum, Maximum, ExclusiveMinimum, ExclusiveMaximum, MinLength, MaxLength, MinItems, MaxItems, MinProperties, MaxProperties, UniqueItems, Required, Pattern}
-use Rattle.judge.proofs.Decided.{Decided, decided_all, decided_and, decided_below, decided_both, decided_either, decided_filled, decided_not, decided_some, decided_type, decided_whole, same_texts}
+use Rattle.judge.specs.declared.keyword.Keyword.TheVariants.{«Type», Bound, Least, Greatest, Required}
+use Rattle.judge.proofs.Decided.{Decided, decided_all, decided_and, decided_below, decided_both, decided_either, decided_filled, decided_not, decided_some, decided_true, decided_type, decided_whole, same_texts}
 
 -- ---- the forms
 
@@ -45,39 +45,10 @@ decided_limit v = decided_and IsCount decided_count (as_number v)
 
 decided_form : (w : Keyword) (v : Tree) → Decided (HasForm w v)
 decided_form «Type» v = decided_either (decided_type_name v) (decided_and AreTypeNames decided_type_names (as_array v))
-decided_form Minimum v = decided_some (as_number v)
-decided_form Maximum v = decided_some (as_number v)
-decided_form ExclusiveMinimum v = decided_some (as_number v)
-decided_form ExclusiveMaximum v = decided_some (as_number v)
-decided_form MinLength v = decided_limit v
-decided_form MaxLength v = decided_limit v
-decided_form MinItems v = decided_limit v
-decided_form MaxItems v = decided_limit v
-decided_form MinProperties v = decided_limit v
-decided_form MaxProperties v = decided_limit v
+decided_form (Bound op) v = decided_some (as_number v)
+decided_form (Least measure) v = decided_limit v
+decided_form (Greatest measure) v = decided_limit v
 decided_form Required v = decided_and AreNames decided_names (as_array v)
-decided_form Enum v = inl tt
-decided_form Const v = inl tt
-decided_form UniqueItems v = inl tt
-decided_form Pattern v = inl tt
-
-decided_built : (w : Keyword) (v : Tree) → Decided (IsBuilt w v)
-decided_built «Type» v = inl tt
-decided_built Minimum v = inl tt
-decided_built Maximum v = inl tt
-decided_built ExclusiveMinimum v = inl tt
-decided_built ExclusiveMaximum v = inl tt
-decided_built MinLength v = inl tt
-decided_built MaxLength v = inl tt
-decided_built MinItems v = inl tt
-decided_built MaxItems v = inl tt
-decided_built MinProperties v = inl tt
-decided_built MaxProperties v = inl tt
-decided_built Required v = inl tt
-decided_built Enum v = inr (λ h. h)
-decided_built Const v = inr (λ h. h)
-decided_built UniqueItems v = inr (λ h. h)
-decided_built Pattern v = inr (λ h. h)
 
 -- ---- a member has no fault, or one of the three
 
@@ -87,18 +58,14 @@ Pair = List ℕ × Tree
 abbrev IsFaulty : Pair → Type 0
 IsFaulty p = IsUnknown p ⊎ (IsUnbuilt p ⊎ IsBad p)
 
-by_form : (w : Keyword) (v : Tree) → Decided (IsBuilt w v) → Decided (HasForm w v) → (IsBuilt w v × HasForm w v) ⊎ ((IsBuilt w v → ⊥) ⊎ (IsBuilt w v × (HasForm w v → ⊥)))
-by_form w v (inl built) (inl form) = inl (built, form)
-by_form w v (inl built) (inr bad) = inr (inr (built, bad))
-by_form w v (inr unbuilt) form = inr (inl unbuilt)
-
-by_keyword : (o : Option Keyword) (v : Tree)
-    → IsSomeAnd o (λ w. IsBuilt w v × HasForm w v) ⊎ ((o ≡ None) ⊎ (IsSomeAnd o (λ w. (IsBuilt w v → ⊥)) ⊎ IsSomeAnd o (λ w. IsBuilt w v × (HasForm w v → ⊥))))
-by_keyword None v = inr (inl refl)
-by_keyword (Some w) v = elim (by_form w v (decided_built w v) (decided_form w v)) [ inl fair ↦ inl fair | inr fault ↦ inr (inr fault) ]
+by_keyword : (o : Option Keyword) (v : Tree) (P : Type 0) → Decided P
+    → IsSomeAnd o (λ w. HasForm w v) ⊎ (((o ≡ None) × (P → ⊥)) ⊎ (((o ≡ None) × P) ⊎ IsSomeAnd o (λ w. (HasForm w v → ⊥))))
+by_keyword None v P (inl p) = inr (inr (inl (refl, p)))
+by_keyword None v P (inr n) = inr (inl (refl, n))
+by_keyword (Some w) v P d = elim (decided_form w v) [ inl fair ↦ inl fair | inr bad ↦ inr (inr (inr bad)) ]
 
 fair_or_faulty : (p : Pair) → IsFair p ⊎ IsFaulty p
-fair_or_faulty p = by_keyword (keyword_of p.0) p.1
+fair_or_faulty p = by_keyword (keyword_of p.0) p.1 (IsToCome p.0) (decided_true (list_any (bytes_eq p.0) to_come))
 
 -- ---- the first fault
 

@@ -1,10 +1,13 @@
 -- Each pair of trees has a verdict: whether a document meets a keyword is decided.
-use Rattle.std.proofs.Common.{inl, inr, ℕ, List, [], ◌∷◌, Bool, Option, Some, pos}
-use Rattle.std.specs.Prelude.{◌↔◌, IfSome, IsTrue, IsSome}
+use Rattle.std.proofs.Common.{inl, inr, ℕ, ◌^◌, List, [], ◌∷◌, Bool, Option, Some, pos}
+use Rattle.std.specs.Prelude.{◌↔◌, ◌*ℤ◌, IfSome, IsTrue, IsSome}
 use Rattle.std.specs.List.{AllByRecursion}
 use Rattle.json_model.specs.Decimal.{Decimal, IsBelow}
 use Rattle.json_model.specs.Parts.{as_number, as_object, as_string, elements_of, is_number, lookup, pairs_of}
 use Rattle.json_model.specs.Tree.{Tree}
+use Rattle.json_semantics.specs.Bounds.{IsAtMost, Keeps}
+use Rattle.json_semantics.specs.declared.numeric_check.BoundOp.{BoundOp}
+use Rattle.json_semantics.specs.declared.numeric_check.BoundOp.TheVariants.{Lt, Lte, Gt, Gte}
 use Rattle.json_traits.specs.Allowed.{IsOfType}
 use Rattle.json_traits.specs.Kinds.{type_of}
 use Rattle.json_traits.specs.Names.{name_of}
@@ -12,9 +15,10 @@ use Rattle.json_traits.specs.Numbers.{decimal_in, whole}
 use Rattle.json_traits.specs.declared.types.json_type.JsonType.{JsonType}
 use Rattle.json_traits.specs.declared.types.json_type.JsonType.TheVariants.{Integer}
 use Rattle.judge.specs.Names.{keyword_of}
-use Rattle.judge.specs.Verdict.{Holds, HoldsAt, IsAmong, IsKeyOf, IsNamed, IsUpTo, Reaches, Verdict, items_of, length_of, members_of}
+use Rattle.judge.specs.Verdict.{Holds, HoldsAt, IsAmong, IsKeyOf, IsNamed, IsUpTo, Reaches, Verdict, count_of}
 use Rattle.judge.specs.declared.keyword.Keyword.{Keyword}
-use Rattle.judge.specs.declared.keyword.Keyword.TheVariants.{«Type», Enum, Const, Minimum, Maximum, ExclusiveMinimum, ExclusiveMaximum, MinLength, MaxLength, MinItems, MaxItems, MinProperties, MaxProperties, UniqueItems, Required, Pattern}
+use Rattle.judge.specs.declared.keyword.Keyword.TheVariants.{«Type», Bound, Least, Greatest, Required}
+use Rattle.judge.proofs.BoundLaws.{at_most}
 use Rattle.judge.proofs.Decided.{Decided, decided_all, decided_below, decided_both, decided_either, decided_if, decided_not, decided_some, decided_true, decided_type, decided_whole, same_texts, same_type, truth_of}
 
 -- ---- types
@@ -59,23 +63,27 @@ decided_key ps v = decided_if (λ s. IsSome (lookup s ps)) (λ s. decided_some (
 
 -- ---- each keyword
 
+-- how a number stands to a limit
+decided_at_most : (x y : Decimal) → Decided (IsAtMost x y)
+decided_at_most x y = go (at_most (x.digits *ℤ pos (10 ^ y.places)) (y.digits *ℤ pos (10 ^ x.places))) (decided_below y x)
+  where
+    go : (IsAtMost x y ↔ (IsBelow y x → ⊥)) → Decided (IsBelow y x) → Decided (IsAtMost x y)
+    go e (inl b) = inr (λ h. e.0 h b)
+    go e (inr n) = inl (e.1 n)
+
+decided_keeps : (op : BoundOp) (m x : Decimal) → Decided (Keeps op x m)
+decided_keeps Lt m x = decided_below x m
+decided_keeps Lte m x = decided_at_most x m
+decided_keeps Gt m x = decided_below m x
+decided_keeps Gte m x = decided_at_most m x
+
 decided_holds : (w : Keyword) (v d : Tree) → Decided (Holds w v d)
 decided_holds «Type» v d = decided_types v d
-decided_holds Minimum v d = decided_bound (λ m x. IsBelow x m → ⊥) (λ m x. decided_not (decided_below x m)) v d
-decided_holds Maximum v d = decided_bound (λ m x. IsBelow m x → ⊥) (λ m x. decided_not (decided_below m x)) v d
-decided_holds ExclusiveMinimum v d = decided_bound IsBelow decided_below v d
-decided_holds ExclusiveMaximum v d = decided_bound (λ m x. IsBelow x m) (λ m x. decided_below x m) v d
-decided_holds MinLength v d = decided_limit Reaches decided_reaches v (length_of d)
-decided_holds MaxLength v d = decided_limit IsUpTo decided_up_to v (length_of d)
-decided_holds MinItems v d = decided_limit Reaches decided_reaches v (items_of d)
-decided_holds MaxItems v d = decided_limit IsUpTo decided_up_to v (items_of d)
-decided_holds MinProperties v d = decided_limit Reaches decided_reaches v (members_of d)
-decided_holds MaxProperties v d = decided_limit IsUpTo decided_up_to v (members_of d)
-decided_holds Required v d = decided_if (λ ps. AllByRecursion (IsKeyOf ps) (elements_of v)) (λ ps. decided_all (IsKeyOf ps) (decided_key ps) (elements_of v)) (as_object d)
-decided_holds Enum v d = inl tt
-decided_holds Const v d = inl tt
-decided_holds UniqueItems v d = inl tt
-decided_holds Pattern v d = inl tt
+decided_holds (Bound op) v d = decided_bound (λ m x. Keeps op x m) (decided_keeps op) v d
+decided_holds (Least measure) v d = decided_limit Reaches decided_reaches v (count_of measure d)
+decided_holds (Greatest measure) v d = decided_limit IsUpTo decided_up_to v (count_of measure d)
+decided_holds Required v d =
+    decided_if (λ ps. AllByRecursion (IsKeyOf ps) (elements_of v)) (λ ps. decided_all (IsKeyOf ps) (decided_key ps) (elements_of v)) (as_object d)
 
 decided_at : (d : Tree) (p : List ℕ × Tree) → Decided (HoldsAt d p)
 decided_at d p = decided_if (λ w. Holds w p.1 d) (λ w. decided_holds w p.1 d) (keyword_of p.0)

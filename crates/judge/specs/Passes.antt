@@ -1,7 +1,7 @@
 -- Which documents pass compiled checks, and what compiling does. The code's own words.
-use Rattle.std.specs.Prelude.{List, [], ◌∷◌, ◌++◌, ℕ, pos, ◌*◌, ◌<ℤ◌, ◌≡◌, ◌↔◌, IsTrue, IsSome, IsSomeAnd, String, string_bytes, Option, Some, None, IfSome, ⊤}
+use Rattle.std.specs.Prelude.{List, [], ◌∷◌, ◌++◌, ℕ, pos, ◌*◌, ◌≤◌, ◌<ℤ◌, ◌≡◌, ◌↔◌, IsTrue, IsSome, IsSomeAnd, String, string_bytes, Option, Some, None, IfSome}
 use Rattle.json_exact.specs.Exact.{exactly, parts}
-use Rattle.json_model.specs.Decimal.{Decimal, IsBelow}
+use Rattle.json_model.specs.Decimal.{Decimal}
 use Rattle.json_model.specs.Parts.{as_array, as_number, as_object, elements_of, lookup}
 use Rattle.json_model.specs.Tree.{Tree}
 use Rattle.json_semantics.specs.Bounds.{Keeps}
@@ -15,14 +15,19 @@ use Rattle.json_traits.specs.declared.types.json_type.JsonType.{JsonType}
 use Rattle.json_traits.specs.declared.types.set.JsonTypeSet.{JsonTypeSet}
 use Rattle.std.specs.List.{AllByRecursion}
 use Rattle.judge.specs.Names.{keyword_of}
-use Rattle.judge.specs.Validity.{AreTypeNames, HasFault, HasForm, IsBuilt, IsFair, IsUnknown, IsUnbuilt, IsBad, IsValid, ListsNames}
-use Rattle.judge.specs.Verdict.{IsAmong, IsNamed, Reaches, IsUpTo, length_of, items_of, members_of, Holds, HoldsAt, Verdict}
+use Rattle.judge.specs.Validity.{AreTypeNames, HasFault, HasForm, IsFair, IsUnknown, IsUnbuilt, IsBad, IsValid, ListsNames}
+use Rattle.judge.specs.Verdict.{IsAmong, IsNamed, Reaches, IsUpTo, count_of, Holds, HoldsAt, Verdict}
 use Rattle.judge.specs.declared.checks.Checks.{Checks}
-use Rattle.judge.specs.declared.count.Count.{Count}
+use Rattle.judge.specs.declared.bounds.Bounds.{Bounds}
+use Rattle.judge.specs.declared.limits.Limit.{Limit}
+use Rattle.judge.specs.declared.limits.Limit.TheVariants.{Small, Large}
+use Rattle.judge.specs.declared.limits.Limits.{Limits}
 use Rattle.judge.specs.declared.errors.KeywordError.{KeywordError}
 use Rattle.judge.specs.declared.errors.KeywordError.TheVariants.{NotAnObject, UnknownKeyword, BadKeyword, Unbuilt, OutOfMemory}
 use Rattle.judge.specs.declared.keyword.Keyword.{Keyword}
-use Rattle.judge.specs.declared.keyword.Keyword.TheVariants.{«Type», Enum, Const, UniqueItems, Pattern, Minimum, Maximum, ExclusiveMinimum, ExclusiveMaximum, MinLength, MaxLength, MinItems, MaxItems, MinProperties, MaxProperties, Required}
+use Rattle.judge.specs.declared.keyword.Keyword.TheVariants.{«Type», Bound, Least, Greatest, Required}
+use Rattle.judge.specs.declared.keyword.Measure.{Measure}
+use Rattle.judge.specs.declared.keyword.Measure.TheVariants.{CodePoints, Elements, Members}
 
 -- the set holds just the types that v names
 abbrev pub IsSetOf : Tree → JsonTypeSet → Type 0
@@ -48,67 +53,68 @@ AreNamesOf v names = (d : Tree) → IfSome (as_object d) (HasKeys names) ↔ Hol
 abbrev pub IsWithin : CompiledBound → Decimal → Type 0
 IsWithin b x = Keeps b.op x (exactly b.limit)
 
--- what a bound asks of a number x and the limit m
-abbrev pub Asks : BoundOp → Decimal → Decimal → Type 0
-Asks Lt x m = IsBelow x m
-Asks Lte x m = IsBelow m x → ⊥
-Asks Gt x m = IsBelow m x
-Asks Gte x m = IsBelow x m → ⊥
-
 -- the bound is the one that m sets
 abbrev pub IsBoundOf : BoundOp → CompiledBound → Decimal → Type 0
-IsBoundOf op b m = (x : Decimal) → IsWithin b x ↔ Asks op x m
+IsBoundOf op b m = (b.op ≡ op) × ((x : Decimal) → IsWithin b x ↔ Keeps op x m)
+
+-- the bound that is set for a way to stand to a limit
+abbrev pub bound_at : BoundOp → Bounds → Option CompiledBound
+bound_at Lt bs = bs.lt
+bound_at Lte bs = bs.lte
+bound_at Gt bs = bs.gt
+bound_at Gte bs = bs.gte
+
+-- the number keeps every bound that is set
+pub record KeepsAll (bs : Bounds) (x : Decimal) : Type 0 where
+  pub lt : IfSome bs.lt (λ b. IsWithin b x)
+  pub lte : IfSome bs.lte (λ b. IsWithin b x)
+  pub gt : IfSome bs.gt (λ b. IsWithin b x)
+  pub gte : IfSome bs.gte (λ b. IsWithin b x)
 
 -- the count n is at least the limit
-abbrev pub Meets : Count → ℕ → Type 0
-Meets c n = pos (n * parts) <ℤ c.limit → ⊥
+abbrev pub Meets : Limit → ℕ → Type 0
+Meets (Small l) n = l ≤ n
+Meets (Large l) n = pos (n * parts) <ℤ l → ⊥
 
 -- the count n is at most the limit
-abbrev pub HasRoom : Count → ℕ → Type 0
-HasRoom c n = c.limit <ℤ pos (n * parts) → ⊥
+abbrev pub HasRoom : Limit → ℕ → Type 0
+HasRoom (Small l) n = n ≤ l
+HasRoom (Large l) n = l <ℤ pos (n * parts) → ⊥
 
 -- the limit is the one that m sets
-abbrev pub IsLimit : Count → Decimal → Type 0
-IsLimit c m = (n : ℕ) → (Meets c n ↔ Reaches m n) × (HasRoom c n ↔ IsUpTo m n)
+abbrev pub IsLimitOf : Limit → Decimal → Type 0
+IsLimitOf l m = (n : ℕ) → (Meets l n ↔ Reaches m n) × (HasRoom l n ↔ IsUpTo m n)
 
--- the count n is at least the one limit and at most the other, where those are set
-abbrev pub Limits : Option Count → Option Count → ℕ → Type 0
-Limits least greatest n = IfSome least (λ c. Meets c n) × IfSome greatest (λ c. HasRoom c n)
+-- the count n is within the limits that are set
+pub record IsBetween (ls : Limits) (n : ℕ) : Type 0 where
+  pub least : IfSome ls.least (λ l. Meets l n)
+  pub greatest : IfSome ls.greatest (λ l. HasRoom l n)
+
+-- the limits of a measure
+abbrev pub limits_at : Measure → Checks → Limits
+limits_at CodePoints c = c.code_points
+limits_at Elements c = c.elements
+limits_at Members c = c.members
 
 -- the document passes every check
 pub record Passes (c : Checks) (d : Tree) : Type 0 where
   pub types : IfSome c.types (λ set. AllowsType set d)
-  pub minimum : IfSome c.minimum (λ b. IfSome (as_number d) (IsWithin b))
-  pub maximum : IfSome c.maximum (λ b. IfSome (as_number d) (IsWithin b))
-  pub exclusive_minimum : IfSome c.exclusive_minimum (λ b. IfSome (as_number d) (IsWithin b))
-  pub exclusive_maximum : IfSome c.exclusive_maximum (λ b. IfSome (as_number d) (IsWithin b))
-  pub lengths : IfSome (length_of d) (Limits c.min_length c.max_length)
-  pub items : IfSome (items_of d) (Limits c.min_items c.max_items)
-  pub members : IfSome (members_of d) (Limits c.min_properties c.max_properties)
+  pub bounds : IfSome (as_number d) (KeepsAll c.bounds)
+  pub code_points : IfSome (count_of CodePoints d) (IsBetween c.code_points)
+  pub elements : IfSome (count_of Elements d) (IsBetween c.elements)
+  pub members : IfSome (count_of Members d) (IsBetween c.members)
   pub required : IfSome c.required (λ names. IfSome (as_object d) (HasKeys names.items))
 
 -- nothing was compiled for the keyword yet
 abbrev pub IsFree : Keyword → Checks → Type 0
 IsFree «Type» c = c.types ≡ None
-IsFree Minimum c = c.minimum ≡ None
-IsFree Maximum c = c.maximum ≡ None
-IsFree ExclusiveMinimum c = c.exclusive_minimum ≡ None
-IsFree ExclusiveMaximum c = c.exclusive_maximum ≡ None
-IsFree MinLength c = c.min_length ≡ None
-IsFree MaxLength c = c.max_length ≡ None
-IsFree MinItems c = c.min_items ≡ None
-IsFree MaxItems c = c.max_items ≡ None
-IsFree MinProperties c = c.min_properties ≡ None
-IsFree MaxProperties c = c.max_properties ≡ None
+IsFree (Bound op) c = bound_at op c.bounds ≡ None
+IsFree (Least measure) c = (limits_at measure c).least ≡ None
+IsFree (Greatest measure) c = (limits_at measure c).greatest ≡ None
 IsFree Required c = c.required ≡ None
-IsFree Enum c = ⊤
-IsFree Const c = ⊤
-IsFree UniqueItems c = ⊤
-IsFree Pattern c = ⊤
 
--- new checks what old checks, and the keyword w with the value v
+-- new checks what old checks, and what the keyword w with the value v asks
 pub record Adds (old : Checks) (w : Keyword) (v : Tree) (new : Checks) : Type 0 where
-  pub built : IsBuilt w v
   pub form : HasForm w v
   pub passes : (d : Tree) → Passes new d ↔ (Passes old d × Holds w v d)
   pub frees : (u : Keyword) → (u ≡ w → ⊥) → IsFree u old → IsFree u new
@@ -121,8 +127,8 @@ IsBadForm m F e = (e ≡ BadKeyword m) × (F → ⊥)
 abbrev pub AddFault : ℕ → Keyword → Tree → KeywordError → Type 0
 AddFault m w v NotAnObject = ⊥
 AddFault m w v (UnknownKeyword n) = ⊥
-AddFault m w v (BadKeyword n) = (n ≡ m) × IsBuilt w v × (HasForm w v → ⊥)
-AddFault m w v Unbuilt = IsBuilt w v → ⊥
+AddFault m w v (BadKeyword n) = (n ≡ m) × (HasForm w v → ⊥)
+AddFault m w v Unbuilt = ⊥
 AddFault m w v OutOfMemory = (w ≡ Required) × IsSome (as_array v)
 
 -- the member p was taken in
@@ -143,6 +149,11 @@ IsFault m p OutOfMemory = ListsNames p
 pub record IsCompiled (t : Tree) (c : Checks) : Type 0 where
   pub valid : IsValid t
   pub passes : (d : Tree) → Passes c d ↔ Verdict t d
+
+-- the member p has no fault, and a document passes the checks c exactly where it meets p
+pub record IsCompiledMember (p : List ℕ × Tree) (c : Checks) : Type 0 where
+  pub fair : IsFair p
+  pub passes : (d : Tree) → Passes c d ↔ HoldsAt d p
 
 abbrev pub HasThisFault : Tree → KeywordError → Type 0
 HasThisFault t e = HasFault t (Some e)

@@ -1,38 +1,19 @@
 -- Which keyword objects are valid, and the first fault of one that is not: the forms of the JSON Schema 2020-12
 -- meta-schema. The order of the causes is this project's own, and so is that an unknown name, and a truth value in place of
 -- a keyword object, are refused.
-use Rattle.std.specs.Prelude.{ℕ, pos, ◌≡◌, ◌⊎◌, ◌<◌, List, [], ◌∷◌, Option, Some, None, ⊤, length, IsSome, IsSomeAnd, slice_get, take}
-use Rattle.std.specs.List.{AllByRecursion}
+use Rattle.std.specs.Prelude.{ℕ, pos, ◌≡◌, ◌⊎◌, ◌<◌, List, [], ◌∷◌, Option, Some, None, ⊤, length, IsTrue, IsSome, IsSomeAnd, bytes_eq, slice_get, take}
+use Rattle.std.specs.List.{AllByRecursion, list_any}
 use Rattle.json_model.specs.Decimal.{Decimal, IsBelow, IsWhole}
 use Rattle.json_model.specs.Parts.{as_array, as_object, as_number, as_string, pairs_of}
 use Rattle.json_model.specs.Tree.{Tree}
 use Rattle.json_traits.specs.Numbers.{whole}
 use Rattle.json_traits.specs.declared.types.json_type.JsonType.{JsonType}
-use Rattle.judge.specs.Names.{keyword_of}
+use Rattle.judge.specs.Names.{keyword_of, to_come}
 use Rattle.judge.specs.Verdict.{IsNameOf}
 use Rattle.judge.specs.declared.errors.KeywordError.{KeywordError}
 use Rattle.judge.specs.declared.errors.KeywordError.TheVariants.{NotAnObject, UnknownKeyword, BadKeyword, Unbuilt, OutOfMemory}
 use Rattle.judge.specs.declared.keyword.Keyword.{Keyword}
-use Rattle.judge.specs.declared.keyword.Keyword.TheVariants.{«Type», Enum, Const, UniqueItems, Pattern, Minimum, Maximum, ExclusiveMinimum, ExclusiveMaximum, MinLength, MaxLength, MinItems, MaxItems, MinProperties, MaxProperties, Required}
-
--- what is built
-abbrev pub IsBuilt : Keyword → Tree → Type 0
-IsBuilt «Type» v = ⊤
-IsBuilt Minimum v = ⊤
-IsBuilt Maximum v = ⊤
-IsBuilt ExclusiveMinimum v = ⊤
-IsBuilt ExclusiveMaximum v = ⊤
-IsBuilt MinLength v = ⊤
-IsBuilt MaxLength v = ⊤
-IsBuilt MinItems v = ⊤
-IsBuilt MaxItems v = ⊤
-IsBuilt MinProperties v = ⊤
-IsBuilt MaxProperties v = ⊤
-IsBuilt Required v = ⊤
-IsBuilt Enum v = ⊥
-IsBuilt Const v = ⊥
-IsBuilt UniqueItems v = ⊥
-IsBuilt Pattern v = ⊥
+use Rattle.judge.specs.declared.keyword.Keyword.TheVariants.{«Type», Bound, Least, Greatest, Required}
 
 -- a name of a type
 abbrev pub IsTypeName : Tree → Type 0
@@ -55,38 +36,30 @@ AreNames vs = AllByRecursion (λ v. IsSome (as_string v)) vs × AreDistinct vs
 abbrev pub IsCount : Decimal → Type 0
 IsCount m = IsWhole m × (IsBelow m (whole (pos 0)) → ⊥)
 
--- the form of a built keyword's value
+-- the form of a keyword's value
 abbrev pub HasForm : Keyword → Tree → Type 0
 HasForm «Type» v = IsTypeName v ⊎ IsSomeAnd (as_array v) AreTypeNames
-HasForm Minimum v = IsSome (as_number v)
-HasForm Maximum v = IsSome (as_number v)
-HasForm ExclusiveMinimum v = IsSome (as_number v)
-HasForm ExclusiveMaximum v = IsSome (as_number v)
-HasForm MinLength v = IsSomeAnd (as_number v) IsCount
-HasForm MaxLength v = IsSomeAnd (as_number v) IsCount
-HasForm MinItems v = IsSomeAnd (as_number v) IsCount
-HasForm MaxItems v = IsSomeAnd (as_number v) IsCount
-HasForm MinProperties v = IsSomeAnd (as_number v) IsCount
-HasForm MaxProperties v = IsSomeAnd (as_number v) IsCount
+HasForm (Bound op) v = IsSome (as_number v)
+HasForm (Least measure) v = IsSomeAnd (as_number v) IsCount
+HasForm (Greatest measure) v = IsSomeAnd (as_number v) IsCount
 HasForm Required v = IsSomeAnd (as_array v) AreNames
-HasForm Enum v = ⊤
-HasForm Const v = ⊤
-HasForm UniqueItems v = ⊤
-HasForm Pattern v = ⊤
 
 -- a member with no fault
 abbrev pub IsFair : List ℕ × Tree → Type 0
-IsFair p = IsSomeAnd (keyword_of p.0) (λ w. IsBuilt w p.1 × HasForm w p.1)
+IsFair p = IsSomeAnd (keyword_of p.0) (λ w. HasForm w p.1)
 
 -- a member's faults, of which it has one at most
+abbrev pub IsToCome : List ℕ → Type 0
+IsToCome name = IsTrue (list_any (bytes_eq name) to_come)
+
 abbrev pub IsUnknown : List ℕ × Tree → Type 0
-IsUnknown p = keyword_of p.0 ≡ None
+IsUnknown p = (keyword_of p.0 ≡ None) × (IsToCome p.0 → ⊥)
 
 abbrev pub IsUnbuilt : List ℕ × Tree → Type 0
-IsUnbuilt p = IsSomeAnd (keyword_of p.0) (λ w. (IsBuilt w p.1 → ⊥))
+IsUnbuilt p = (keyword_of p.0 ≡ None) × IsToCome p.0
 
 abbrev pub IsBad : List ℕ × Tree → Type 0
-IsBad p = IsSomeAnd (keyword_of p.0) (λ w. IsBuilt w p.1 × (HasForm w p.1 → ⊥))
+IsBad p = IsSomeAnd (keyword_of p.0) (λ w. (HasForm w p.1 → ⊥))
 
 -- The member is `required` with a list, fair or not: the one member whose reading takes memory.
 abbrev pub ListsNames : List ℕ × Tree → Type 0

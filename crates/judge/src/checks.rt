@@ -1,21 +1,22 @@
 //! Compiled keyword objects.
 
-ghost use Rattle.std.specs.Prelude.{ℕ, ◌≡◌, ◌↔◌, ◌⊎◌, ◌≤◌, IsTrue, IsOk, Some, Err, IfOk, IfErr, OnOk, MatchResult};
+ghost use Rattle.std.specs.Prelude.{ℕ, ◌≡◌, ◌↔◌, ◌⊎◌, ◌≤◌, IsTrue, IsOk, Some, Err, IfOk, IfErr, IfSome, OnOk, MatchResult};
 ghost use Rattle.json_model.specs.Nest.{nest};
 ghost use Rattle.json_model.specs.Tree.{Tree};
 ghost use Rattle.judge.specs.Names.{keyword_of};
-ghost use Rattle.judge.specs.Passes.{AddFault, Adds, HasThisFault, IsCompiled, IsFault, IsFree, Passes, Took};
+ghost use Rattle.judge.specs.Passes.{AddFault, Adds, HasRoom, HasThisFault, IsCompiled, IsCompiledMember, IsFault, IsFree, Meets, Passes, Took};
+ghost use Rattle.judge.specs.Verdict.{count_of};
 ghost use Rattle.judge.specs.Validity.{IsFirst, ListsNames};
 ghost use Rattle.judge.specs.declared.keyword.Keyword.{Keyword};
 
-use crate::count::Count;
+use crate::bounds::Bounds;
 use crate::errors::KeywordError;
-use crate::keyword::Keyword;
-use crate::meets::{meets_bound, meets_items, meets_lengths, meets_members, meets_types};
+use crate::keyword::{Keyword, Measure};
+use crate::limits::{Limit, Limits};
+use crate::meets::{meets_bounds, meets_code_points, meets_elements, meets_members, meets_types};
 use crate::names::{meets_required, read_names};
-use crate::read::{read_bound, read_count, read_types};
+use crate::read::{read_bound, read_limit, read_types};
 use json_exact::OutOfMemory;
-use json_semantics::numeric_check::{BoundOp, CompiledBound};
 use json_traits::types::JsonTypeSet;
 use json_traits::{Node, Object};
 use std::alloc::Global;
@@ -25,16 +26,10 @@ use std::alloc::Global;
 #[derive(Drop)]
 pub struct Checks {
     types: Option<JsonTypeSet>,
-    minimum: Option<CompiledBound>,
-    maximum: Option<CompiledBound>,
-    exclusive_minimum: Option<CompiledBound>,
-    exclusive_maximum: Option<CompiledBound>,
-    min_length: Option<Count>,
-    max_length: Option<Count>,
-    min_items: Option<Count>,
-    max_items: Option<Count>,
-    min_properties: Option<Count>,
-    max_properties: Option<Count>,
+    bounds: Bounds,
+    code_points: Limits,
+    elements: Limits,
+    members: Limits,
     required: Option<Vec<String>>,
 }
 
@@ -46,17 +41,37 @@ impl Checks {
     {
         Checks {
             types: None,
-            minimum: None,
-            maximum: None,
-            exclusive_minimum: None,
-            exclusive_maximum: None,
-            min_length: None,
-            max_length: None,
-            min_items: None,
-            max_items: None,
-            min_properties: None,
-            max_properties: None,
+            bounds: Bounds::none(),
+            code_points: Limits::NONE,
+            elements: Limits::NONE,
+            members: Limits::NONE,
             required: None,
+        }
+    }
+
+    /// Sets the least count of a measure.
+    fn set_least(&mut self, measure: Measure, limit: Limit)
+        requires { IsFree (Keyword.Least measure) self.old }
+        ensures passes { (d : Tree) → Passes self.new d ↔ (Passes self.old d × IfSome (count_of measure d) (Meets limit)) }
+        ensures frees { (u : Keyword) → (u ≡ Keyword.Least measure → ⊥) → IsFree u self.old → IsFree u self.new }
+    {
+        match measure {
+            Measure::CodePoints => self.code_points.least = Some(limit),
+            Measure::Elements => self.elements.least = Some(limit),
+            Measure::Members => self.members.least = Some(limit),
+        }
+    }
+
+    /// Sets the greatest count of a measure.
+    fn set_greatest(&mut self, measure: Measure, limit: Limit)
+        requires { IsFree (Keyword.Greatest measure) self.old }
+        ensures passes { (d : Tree) → Passes self.new d ↔ (Passes self.old d × IfSome (count_of measure d) (HasRoom limit)) }
+        ensures frees { (u : Keyword) → (u ≡ Keyword.Greatest measure → ⊥) → IsFree u self.old → IsFree u self.new }
+    {
+        match measure {
+            Measure::CodePoints => self.code_points.greatest = Some(limit),
+            Measure::Elements => self.elements.greatest = Some(limit),
+            Measure::Members => self.members.greatest = Some(limit),
         }
     }
 
@@ -74,22 +89,10 @@ impl Checks {
     {
         match keyword {
             Keyword::Type => self.types = Some(read_types(value, member)?),
-            Keyword::Minimum => self.minimum = Some(read_bound(BoundOp::Gte, value, member)?),
-            Keyword::Maximum => self.maximum = Some(read_bound(BoundOp::Lte, value, member)?),
-            Keyword::ExclusiveMinimum => {
-                self.exclusive_minimum = Some(read_bound(BoundOp::Gt, value, member)?)
-            }
-            Keyword::ExclusiveMaximum => {
-                self.exclusive_maximum = Some(read_bound(BoundOp::Lt, value, member)?)
-            }
-            Keyword::MinLength => self.min_length = Some(read_count(value, member)?),
-            Keyword::MaxLength => self.max_length = Some(read_count(value, member)?),
-            Keyword::MinItems => self.min_items = Some(read_count(value, member)?),
-            Keyword::MaxItems => self.max_items = Some(read_count(value, member)?),
-            Keyword::MinProperties => self.min_properties = Some(read_count(value, member)?),
-            Keyword::MaxProperties => self.max_properties = Some(read_count(value, member)?),
+            Keyword::Bound(op) => self.bounds.set(read_bound(op, value, member)?),
+            Keyword::Least(measure) => self.set_least(measure, read_limit(value, member)?),
+            Keyword::Greatest(measure) => self.set_greatest(measure, read_limit(value, member)?),
             Keyword::Required => self.required = Some(read_names(alloc, value, member)?),
-            _ => return Err(KeywordError::Unbuilt),
         }
         Ok(())
     }
@@ -108,7 +111,25 @@ impl Checks {
     {
         match Keyword::from_name(name) {
             Some(keyword) => self.add(alloc, keyword, value, member),
+            None if Keyword::is_to_come(name) => Err(KeywordError::Unbuilt),
             None => Err(KeywordError::UnknownKeyword { member }),
+        }
+    }
+
+    /// The checks of one keyword, as member number `member` of its object. The error is that member's fault.
+    pub fn of_member<'a, N: Node<'a>>(
+        alloc: Global,
+        name: &str,
+        value: &N,
+        member: usize,
+    ) -> Result<Checks, KeywordError>
+        ensures ok { IfOk result (IsCompiledMember (name.now, N.tree value.now)) }
+        ensures err { IfErr result (IsFault member (name.now, N.tree value.now)) }
+    {
+        let mut checks = Checks::empty();
+        match checks.take_member(alloc, name, value, member) {
+            Ok(()) => Ok(checks),
+            Err(error) => Err(error),
         }
     }
 
@@ -142,13 +163,10 @@ impl Checks {
         ensures right { IfOk result (λ b. IsTrue b ↔ Passes self.now (N.tree node.now)) }
     {
         let passes = meets_types(self.types, node)
-            && meets_bound(&self.minimum, node)
-            && meets_bound(&self.maximum, node)
-            && meets_bound(&self.exclusive_minimum, node)
-            && meets_bound(&self.exclusive_maximum, node)
-            && meets_lengths(self.min_length, self.max_length, node)
-            && meets_items(self.min_items, self.max_items, node)
-            && meets_members(self.min_properties, self.max_properties, node)
+            && meets_bounds(&self.bounds, node)
+            && meets_code_points(&self.code_points, node)
+            && meets_elements(&self.elements, node)
+            && meets_members(&self.members, node)
             && meets_required(&self.required, node);
         Ok(passes)
     }

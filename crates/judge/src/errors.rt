@@ -46,7 +46,7 @@ pub enum KeywordError {
 #[derive(Clone, Copy, Debug, PartialEq, Eq, Error)]
 pub enum JudgeError {
     /// The keywords' bytes are no JSON tree.
-    #[error("Keywords({0})")]
+    #[error("Keywords")]
     Keywords(Fault),
     /// The keywords are no object, as `00000040`, the empty array.
     #[error("NotAnObject")]
@@ -58,7 +58,7 @@ pub enum JudgeError {
     #[error("BadKeyword")]
     BadKeyword { member: usize },
     /// The document's bytes are no JSON tree.
-    #[error("Document({0})")]
+    #[error("Document")]
     Document(Fault),
     /// The first faulty member has a name that is known and not built yet, as in `{"enum":[]}`.
     #[error("Unbuilt")]

@@ -1,52 +1,66 @@
-//! The keywords.
+//! The keywords, and their names.
 
-ghost use Rattle.std.specs.Prelude.{◌≡◌};
-ghost use Rattle.judge.specs.Names.{keyword_of};
+ghost use Rattle.std.specs.Prelude.{◌≡◌, bytes_eq};
+ghost use Rattle.std.specs.List.{list_any};
+ghost use Rattle.judge.specs.Names.{keyword_of, to_come};
 
-/// A keyword, of the sixteen that this project knows.
+use json_semantics::numeric_check::BoundOp;
+
+/// What of a document a limit counts.
+#[derive(Clone, Copy, Debug, PartialEq, Eq)]
+pub(crate) enum Measure {
+    /// The code points of a string.
+    CodePoints,
+    /// The elements of an array.
+    Elements,
+    /// The members of an object.
+    Members,
+}
+
+/// A keyword that is built. Keywords that ask alike are one variant.
 #[derive(Clone, Copy, Debug, PartialEq, Eq)]
 pub(crate) enum Keyword {
+    /// The document is of a type: `type`.
     Type,
-    Enum,
-    Const,
-    Minimum,
-    Maximum,
-    ExclusiveMinimum,
-    ExclusiveMaximum,
-    MinLength,
-    MaxLength,
-    MinItems,
-    MaxItems,
-    MinProperties,
-    MaxProperties,
-    UniqueItems,
+    /// A number stands to a limit as it should: `minimum` and its like.
+    Bound(BoundOp),
+    /// A count is at least a limit: `minLength` and its like.
+    Least(Measure),
+    /// A count is at most a limit: `maxLength` and its like.
+    Greatest(Measure),
+    /// An object has each of these keys: `required`.
     Required,
-    Pattern,
 }
 
 impl Keyword {
-    /// The keyword of a name, if there is one.
+    /// The keyword of a name, if there is one that is built.
     pub(crate) fn from_name(name: &str) -> Option<Keyword>
         ensures { result ≡ keyword_of name.now }
     {
         match name {
             "type" => Some(Keyword::Type),
-            "enum" => Some(Keyword::Enum),
-            "const" => Some(Keyword::Const),
-            "minimum" => Some(Keyword::Minimum),
-            "maximum" => Some(Keyword::Maximum),
-            "exclusiveMinimum" => Some(Keyword::ExclusiveMinimum),
-            "exclusiveMaximum" => Some(Keyword::ExclusiveMaximum),
-            "minLength" => Some(Keyword::MinLength),
-            "maxLength" => Some(Keyword::MaxLength),
-            "minItems" => Some(Keyword::MinItems),
-            "maxItems" => Some(Keyword::MaxItems),
-            "minProperties" => Some(Keyword::MinProperties),
-            "maxProperties" => Some(Keyword::MaxProperties),
-            "uniqueItems" => Some(Keyword::UniqueItems),
+            "minimum" => Some(Keyword::Bound(BoundOp::Gte)),
+            "maximum" => Some(Keyword::Bound(BoundOp::Lte)),
+            "exclusiveMinimum" => Some(Keyword::Bound(BoundOp::Gt)),
+            "exclusiveMaximum" => Some(Keyword::Bound(BoundOp::Lt)),
+            "minLength" => Some(Keyword::Least(Measure::CodePoints)),
+            "maxLength" => Some(Keyword::Greatest(Measure::CodePoints)),
+            "minItems" => Some(Keyword::Least(Measure::Elements)),
+            "maxItems" => Some(Keyword::Greatest(Measure::Elements)),
+            "minProperties" => Some(Keyword::Least(Measure::Members)),
+            "maxProperties" => Some(Keyword::Greatest(Measure::Members)),
             "required" => Some(Keyword::Required),
-            "pattern" => Some(Keyword::Pattern),
             _ => None,
+        }
+    }
+
+    /// Whether a name is that of a keyword that is still to come.
+    pub(crate) fn is_to_come(name: &str) -> bool
+        ensures { result ≡ list_any (bytes_eq name.now) to_come }
+    {
+        match name {
+            "enum" | "const" | "uniqueItems" | "pattern" => true,
+            _ => false,
         }
     }
 }

@@ -34,12 +34,13 @@
 #![tactic(auto)]
 
 mod answer;
+mod bounds;
 mod checks;
-mod count;
 mod cut;
 mod errors;
 mod keyword;
 pub mod laws;
+mod limits;
 mod lines;
 mod meets;
 mod memory;

@@ -3,11 +3,12 @@
 ghost use Rattle.std.specs.Prelude.{◌↔◌, IsTrue, IfSome};
 ghost use Rattle.json_model.specs.Parts.{as_number};
 ghost use Rattle.json_traits.specs.Allowed.{AllowsType};
-ghost use Rattle.judge.specs.Passes.{IsWithin, Limits};
-ghost use Rattle.judge.specs.Verdict.{length_of, items_of, members_of};
+ghost use Rattle.judge.specs.Passes.{IsBetween, KeepsAll};
+ghost use Rattle.judge.specs.Verdict.{count_of};
+ghost use Rattle.judge.specs.declared.keyword.Measure.TheVariants as measures;
 
-use crate::count::Count;
-use json_semantics::numeric_check::{CompiledBound, check_bound};
+use crate::bounds::Bounds;
+use crate::limits::Limits;
 use json_traits::types::JsonTypeSet;
 use json_traits::{Array, JsonNumber, Node, Object};
 
@@ -21,79 +22,57 @@ pub(crate) fn meets_types<'a, N: Node<'a>>(types: Option<JsonTypeSet>, node: &N)
     }
 }
 
-/// Whether a value is no number, or one within the bound.
+/// Whether a value is no number, or one that keeps every bound. The number is read once.
 #[tactic(auto, using(json_model::proofs::KindLaws::number_some, json_model::proofs::KindLaws::number_none))]
-pub(crate) fn meets_bound<'a, N: Node<'a>>(bound: &Option<CompiledBound>, node: &N) -> bool
-    ensures { IsTrue result ↔ IfSome bound.now (λ b.
-        IfSome (as_number (N.tree node.now)) (IsWithin b)) }
+pub(crate) fn meets_bounds<'a, N: Node<'a>>(bounds: &Bounds, node: &N) -> bool
+    ensures { IsTrue result ↔ IfSome (as_number (N.tree node.now)) (KeepsAll bounds.now) }
 {
-    let Some(bound) = bound else {
+    if bounds.is_empty() {
         return true;
-    };
+    }
     match node.as_number() {
-        Some(number) => check_bound(bound, &number.to_number()),
+        Some(number) => bounds.are_kept_by(&number.to_number()),
         None => true,
     }
-}
-
-/// Whether a count is at least the one limit and at most the other, where those are set.
-fn is_within(least: Option<Count>, greatest: Option<Count>, count: u64) -> bool
-    ensures { IsTrue result ↔ Limits least greatest count }
-{
-    let reaches = match least {
-        Some(limit) => limit.is_met_by(count),
-        None => true,
-    };
-    let fits = match greatest {
-        Some(limit) => limit.has_room_for(count),
-        None => true,
-    };
-    reaches && fits
 }
 
 /// Whether a value is no string, or one whose count of code points is within the limits.
-pub(crate) fn meets_lengths<'a, N: Node<'a>>(
-    least: Option<Count>,
-    greatest: Option<Count>,
-    node: &N,
-) -> bool
-    ensures { IsTrue result ↔ IfSome (length_of (N.tree node.now)) (Limits least greatest) }
+pub(crate) fn meets_code_points<'a, N: Node<'a>>(limits: &Limits, node: &N) -> bool
+    ensures { IsTrue result ↔ IfSome (count_of measures.CodePoints (N.tree node.now)) (IsBetween limits.now) }
 {
-    if least.is_none() && greatest.is_none() {
+    if limits.is_empty() {
         return true;
     }
     match node.string_length() {
-        Some(length) => is_within(least, greatest, length),
+        Some(length) => limits.have(length),
         None => true,
     }
 }
 
 /// Whether a value is no array, or one whose count of elements is within the limits.
 #[tactic(auto, using(json_model::proofs::KindLaws::array_some, json_model::proofs::KindLaws::array_none, json_model::proofs::KindLaws::if_array_is))]
-pub(crate) fn meets_items<'a, N: Node<'a>>(
-    least: Option<Count>,
-    greatest: Option<Count>,
-    node: &N,
-) -> bool
-    ensures { IsTrue result ↔ IfSome (items_of (N.tree node.now)) (Limits least greatest) }
+pub(crate) fn meets_elements<'a, N: Node<'a>>(limits: &Limits, node: &N) -> bool
+    ensures { IsTrue result ↔ IfSome (count_of measures.Elements (N.tree node.now)) (IsBetween limits.now) }
 {
+    if limits.is_empty() {
+        return true;
+    }
     match node.as_array() {
-        Some(array) => is_within(least, greatest, array.len() as u64),
+        Some(array) => limits.have(array.len() as u64),
         None => true,
     }
 }
 
 /// Whether a value is no object, or one whose count of members is within the limits.
 #[tactic(auto, using(json_model::proofs::KindLaws::object_some, json_model::proofs::KindLaws::object_none, json_model::proofs::KindLaws::if_object_is))]
-pub(crate) fn meets_members<'a, N: Node<'a>>(
-    least: Option<Count>,
-    greatest: Option<Count>,
-    node: &N,
-) -> bool
-    ensures { IsTrue result ↔ IfSome (members_of (N.tree node.now)) (Limits least greatest) }
+pub(crate) fn meets_members<'a, N: Node<'a>>(limits: &Limits, node: &N) -> bool
+    ensures { IsTrue result ↔ IfSome (count_of measures.Members (N.tree node.now)) (IsBetween limits.now) }
 {
+    if limits.is_empty() {
+        return true;
+    }
     match node.as_object() {
-        Some(object) => is_within(least, greatest, object.len() as u64),
+        Some(object) => limits.have(object.len() as u64),
         None => true,
     }
 }

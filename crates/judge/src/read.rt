@@ -3,13 +3,13 @@
 ghost use Rattle.std.specs.Prelude.{◌≡◌, ◌↔◌, Some, IsSome, IsSomeAnd, MatchOption, MatchResult};
 ghost use Rattle.json_model.specs.Parts.{as_array, as_number};
 ghost use Rattle.json_traits.specs.declared.types.json_type.JsonType.{JsonType};
-ghost use Rattle.judge.specs.Passes.{IsBadForm, IsBoundOf, IsLimit, IsSetOf, IsSetOfList};
+ghost use Rattle.judge.specs.Passes.{IsBadForm, IsBoundOf, IsLimitOf, IsSetOf, IsSetOfList};
 ghost use Rattle.judge.specs.Validity.{AreTypeNames, HasForm, IsCount};
 ghost use Rattle.judge.specs.Verdict.{IsNameOf};
 ghost use Rattle.judge.specs.declared.keyword.Keyword.TheVariants as keywords;
 
-use crate::count::Count;
 use crate::errors::KeywordError;
+use crate::limits::Limit;
 use json_semantics::numeric_check::{BoundOp, CompiledBound, compile_bound};
 use json_traits::types::{JsonType, JsonTypeSet};
 use json_traits::{Array, JsonNumber, Node};
@@ -82,18 +82,18 @@ pub(crate) fn read_bound<'a, N: Node<'a>>(
     }
 }
 
-/// The least count that a number sets.
+/// The limit of a count that a number sets.
 #[tactic(auto, using(json_model::proofs::KindLaws::number_some, json_model::proofs::KindLaws::number_none))]
-pub(crate) fn read_count<'a, N: Node<'a>>(value: &N, member: usize) -> Result<Count, KeywordError>
+pub(crate) fn read_limit<'a, N: Node<'a>>(value: &N, member: usize) -> Result<Limit, KeywordError>
     ensures { MatchResult result
-        (λ count. IsSomeAnd (as_number (N.tree value.now)) (λ m. IsCount m × IsLimit count m))
+        (λ limit. IsSomeAnd (as_number (N.tree value.now)) (λ m. IsCount m × IsLimitOf limit m))
         (IsBadForm member (IsSomeAnd (as_number (N.tree value.now)) IsCount)) }
 {
     let Some(number) = value.as_number() else {
         return Err(KeywordError::BadKeyword { member });
     };
-    match Count::of_number(&number.to_number()) {
-        Some(count) => Ok(count),
+    match Limit::of_number(&number.to_number()) {
+        Some(limit) => Ok(limit),
         None => Err(KeywordError::BadKeyword { member }),
     }
 }

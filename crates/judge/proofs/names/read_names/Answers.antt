@@ -44,7 +44,6 @@ returns-in_default-as_string g c =
     let k = length c.loop-element.yielded in
     let r = left_item {j = c.next.new.self} (elements_of t) k c.loop-element.invariant.left c.in-Some-element.ensures.steps in (
       refl,
-      tt,
       λ h. no_string (elements_of t) c.loop-element.names.items (has c.loop-element.seen) k (g.N.HasTree.tree c.in-Some-element.element) r.0 c.loop-element.invariant.collected
           (sym (ap (option_map (λ (s : Bor (List ℕ)). s.now)) (sym c.in_default-as_string.is) ∙ c.as_string.ensures)) ((of_list t AreNames c.in-Some.ensures).0 h),
     )
@@ -55,7 +54,6 @@ returns-in-Ok-false g c =
     let k = length c.loop-element.yielded in
     let r = left_item {j = c.next.new.self} (elements_of t) k c.loop-element.invariant.left c.in-Some-element.ensures.steps in (
       refl,
-      tt,
       λ h. twice (elements_of t) c.loop-element.names.items (has c.loop-element.seen) k (g.N.HasTree.tree c.in-Some-element.element) r.0 c.loop-element.invariant.collected
           c.in-Some-as_string.name c.in-Some-as_string.ensures (not_false _ (sym c.in-Ok-false.ensures.added ∙ c.in-Ok-false.field-0-test)) ((of_list t AreNames c.in-Some.ensures).0 h),
     )

@@ -1,0 +1,138 @@
+-- What a compiled keyword adds to the checks.
+use Rattle.std.proofs.Common.{◌≡◌, ℕ, Option, Some, None, refl, sym, ap, ◌∙◌}
+use Rattle.std.specs.Prelude.{◌↔◌, IfSome, IsSome, IsSomeAnd}
+use Rattle.json_model.specs.Decimal.{Decimal}
+use Rattle.json_model.specs.Parts.{as_number}
+use Rattle.json_model.specs.Tree.{Tree}
+use Rattle.json_semantics.specs.Bounds.{Keeps}
+use Rattle.json_semantics.specs.declared.numeric_check.BoundOp.{BoundOp}
+use Rattle.json_semantics.specs.declared.numeric_check.CompiledBound.{CompiledBound}
+use Rattle.judge.proofs.NameLists.{if_both}
+use Rattle.judge.specs.Passes.{Adds, HasRoom, IsBoundOf, IsFree, IsLimitOf, IsWithin, KeepsAll, Meets, Passes, bound_at, limits_at}
+use Rattle.judge.specs.Validity.{HasForm, IsCount}
+use Rattle.judge.specs.Verdict.{Holds, IsUpTo, Reaches, count_of}
+use Rattle.judge.specs.declared.bounds.Bounds.{Bounds}
+use Rattle.judge.specs.declared.checks.Checks.{Checks}
+use Rattle.judge.specs.declared.keyword.Keyword.{Keyword}
+use Rattle.judge.specs.declared.keyword.Keyword.TheVariants.{«Type», Bound, Least, Greatest, Required}
+use Rattle.judge.specs.declared.keyword.Measure.{Measure}
+use Rattle.judge.specs.declared.keyword.Measure.TheVariants.{CodePoints, Elements, Members}
+use Rattle.judge.specs.declared.limits.Limit.{Limit}
+use Rattle.judge.specs.declared.limits.Limits.{Limits}
+
+-- what is there is there
+there : {A : Type 0} (o : Option A) (P : A → Type 0) → IsSomeAnd o P → IsSome o
+there None P h = absurd h
+there (Some a) P h = refl
+
+-- what follows of what is there is there
+there_and : {A : Type 0} (o : Option A) (P Q : A → Type 0) → ((a : A) → P a → Q a) → IsSomeAnd o P → IsSomeAnd o Q
+there_and None P Q f h = h
+there_and (Some a) P Q f h = f a h
+
+-- what is asked of a limit that is there
+asked : {A : Type 0} (o : Option A) (P : Type 0) (Q : A → Type 0) → IsSomeAnd o (λ a. P ↔ Q a) → P ↔ IfSome o Q
+asked None P Q h = absurd h
+asked (Some a) P Q h = h
+
+module _ (old : Checks) (v : Tree) where
+  -- a bound that was set
+  pub adds_bound : (op : BoundOp) (bounds : Bounds) (b : CompiledBound) → IsSomeAnd (as_number v) (IsBoundOf op b)
+      → ((x : Decimal) → KeepsAll bounds x ↔ (KeepsAll old.bounds x × IsWithin b x))
+      → ((o : BoundOp) → (o ≡ b.op → ⊥) → bound_at o bounds ≡ bound_at o old.bounds)
+      → Adds old (Bound op) v (record old { bounds = bounds })
+  adds_bound op bounds b is kept free = record {
+    form = there (as_number v) (IsBoundOf op b) is;
+    passes = λ d. (
+      λ h. (let k = split d h.bounds in (
+        record {
+          types = h.types;
+          bounds = k.0;
+          code_points = h.code_points;
+          elements = h.elements;
+          members = h.members;
+          required = h.required;
+        },
+        (holds d).0 k.1,
+      )),
+      λ h. record {
+        types = h.0.types;
+        bounds = both d (h.0.bounds, (holds d).1 h.1);
+        code_points = h.0.code_points;
+        elements = h.0.elements;
+        members = h.0.members;
+        required = h.0.required;
+      },
+    );
+    frees = others;
+  }
+    where
+      same : IsSome (as_number v) × (b.op ≡ op)
+      same = go (as_number v) is
+        where
+          go : (o : Option Decimal) → IsSomeAnd o (IsBoundOf op b) → IsSome o × (b.op ≡ op)
+          go None h = absurd h
+          go (Some m) h = (refl, h.0)
+
+      holds : (d : Tree) → IfSome (as_number d) (IsWithin b) ↔ Holds (Bound op) v d
+      holds d = asked (as_number v) (IfSome (as_number d) (IsWithin b)) (λ m. IfSome (as_number d) (λ x. Keeps op x m))
+          (there_and (as_number v) (IsBoundOf op b) (λ m. IfSome (as_number d) (IsWithin b) ↔ IfSome (as_number d) (λ x. Keeps op x m))
+          (λ m h. if_both (as_number d) (IsWithin b) (λ x. Keeps op x m) h.1) is)
+
+      split : (d : Tree) → IfSome (as_number d) (KeepsAll bounds) → IfSome (as_number d) (KeepsAll old.bounds) × IfSome (as_number d) (IsWithin b)
+      split d = go (as_number d)
+        where
+          go : (o : Option Decimal) → IfSome o (KeepsAll bounds) → IfSome o (KeepsAll old.bounds) × IfSome o (IsWithin b)
+          go None h = (tt, tt)
+          go (Some x) h = (kept x).0 h
+
+      both : (d : Tree) → IfSome (as_number d) (KeepsAll old.bounds) × IfSome (as_number d) (IsWithin b) → IfSome (as_number d) (KeepsAll bounds)
+      both d = go (as_number d)
+        where
+          go : (o : Option Decimal) → IfSome o (KeepsAll old.bounds) × IfSome o (IsWithin b) → IfSome o (KeepsAll bounds)
+          go None h = tt
+          go (Some x) h = (kept x).1 h
+
+      same_limits : (measure : Measure) → limits_at measure (record old { bounds = bounds }) ≡ limits_at measure old
+      same_limits CodePoints = refl
+      same_limits Elements = refl
+      same_limits Members = refl
+
+      others : (u : Keyword) → (u ≡ Bound op → ⊥) → IsFree u old → IsFree u (record old { bounds = bounds })
+      others «Type» other h = h
+      others (Bound o) other h = free o (λ e. other (ap (λ (p : BoundOp). let k : Keyword = Bound p in k) (e ∙ same.1))) ∙ h
+      others (Least measure) other h = ap (λ (l : Limits). l.least) (same_limits measure) ∙ h
+      others (Greatest measure) other h = ap (λ (l : Limits). l.greatest) (same_limits measure) ∙ h
+      others Required other h = h
+
+  module _ (measure : Measure) (limit : Limit) (new : Checks) (is : IsSomeAnd (as_number v) (λ m. IsCount m × IsLimitOf limit m)) where
+    form : IsSomeAnd (as_number v) IsCount
+    form = there_and (as_number v) (λ m. IsCount m × IsLimitOf limit m) IsCount (λ m h. h.0) is
+
+    -- a least count that was set
+    pub adds_least : ((d : Tree) → Passes new d ↔ (Passes old d × IfSome (count_of measure d) (Meets limit)))
+        → ((u : Keyword) → (u ≡ Least measure → ⊥) → IsFree u old → IsFree u new) → Adds old (Least measure) v new
+    adds_least passes frees = record {
+      form = form;
+      passes = λ d. (λ h. (let p = (passes d).0 h in (p.0, (holds d).0 p.1)), λ h. (passes d).1 (h.0, (holds d).1 h.1));
+      frees = frees;
+    }
+      where
+        holds : (d : Tree) → IfSome (count_of measure d) (Meets limit) ↔ Holds (Least measure) v d
+        holds d = asked (as_number v) (IfSome (count_of measure d) (Meets limit)) (λ m. IfSome (count_of measure d) (Reaches m))
+            (there_and (as_number v) (λ m. IsCount m × IsLimitOf limit m) (λ m. IfSome (count_of measure d) (Meets limit) ↔ IfSome (count_of measure d) (Reaches m))
+            (λ m h. if_both (count_of measure d) (Meets limit) (Reaches m) (λ n. (h.1 n).0)) is)
+
+    -- a greatest count that was set
+    pub adds_greatest : ((d : Tree) → Passes new d ↔ (Passes old d × IfSome (count_of measure d) (HasRoom limit)))
+        → ((u : Keyword) → (u ≡ Greatest measure → ⊥) → IsFree u old → IsFree u new) → Adds old (Greatest measure) v new
+    adds_greatest passes frees = record {
+      form = form;
+      passes = λ d. (λ h. (let p = (passes d).0 h in (p.0, (holds d).0 p.1)), λ h. (passes d).1 (h.0, (holds d).1 h.1));
+      frees = frees;
+    }
+      where
+        holds : (d : Tree) → IfSome (count_of measure d) (HasRoom limit) ↔ Holds (Greatest measure) v d
+        holds d = asked (as_number v) (IfSome (count_of measure d) (HasRoom limit)) (λ m. IfSome (count_of measure d) (IsUpTo m))
+            (there_and (as_number v) (λ m. IsCount m × IsLimitOf limit m) (λ m. IfSome (count_of measure d) (HasRoom limit) ↔ IfSome (count_of measure d) (IsUpTo m))
+            (λ m h. if_both (count_of measure d) (HasRoom limit) (IsUpTo m) (λ n. (h.1 n).1)) is)

@@ -11,6 +11,7 @@ use Rattle.json_model.specs.Tree.{Tree, object, Members, no_members, member, key
 use Rattle.json_exact.specs.Trees.{tree}
 use Rattle.json_exact.specs.declared.value.Value.{Value}
 use Rattle.json_model.proofs.KeyOrderLaws.{key_total, not_before, rises_all, rises_tail}
+use Rattle.json_traits.proofs.RisingLaws.{keys_from}
 
 -- the same key, and the same tree under it, at each place
 abbrev pub SameAtPlaces : Members → Members → Type 0
@@ -125,11 +126,6 @@ all_found (member k t ms) no_members e p = absurd p
 all_found (member k t ms) (member l u ns) e p =
     let after = subst (λ (z : List ℕ). AllByRecursion (λ y. key_before z y ≡ true) (keys ms)) p.0 (rises_all k (keys ms) e) in
     (first_found k l t u ns p.0 p.1, before_rest l u ms ns after (all_found ms ns (rises_tail k (keys ms) e) p.2))
-
--- the keys of pairs
-pub keys_from : (ps : List (List ℕ × Tree)) → keys (members_from ps) ≡ map (λ p. p.0) ps
-keys_from [] = refl
-keys_from (p ∷ ps) = ap (λ (ks : List (List ℕ)). p.0 ∷ ks) (keys_from ps)
 
 -- of objects whose keys rise
 pub place_by_place : (ms ns : Members) → rises (keys ms) ≡ true → rises (keys ns) ≡ true

@@ -5,3 +5,5 @@ pub mod GivesLaws
 pub mod ValueLaws
 pub mod AllowedLaws
 mod WeightLaws
+pub mod ShapeLaws
+pub mod RisingLaws

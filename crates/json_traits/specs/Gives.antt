@@ -1,4 +1,4 @@
--- What an iterator gives. This project's own.
+-- What an iterator gives up to its first end; of calls after the end nothing is said. This project's own.
 use Rattle.std.specs.Prelude.{List, Option}
 use Rattle.std.specs.Iterator.{AlwaysYields}
 

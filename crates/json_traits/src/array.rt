@@ -11,14 +11,14 @@ use crate::has_tree::HasTree;
 pub trait Array<'a>: Copy + HasTree {
     /// What stands for an element.
     type Node: Copy + HasTree;
-    /// The iterator over the elements.
+    /// The iterator over the elements. What it gives after the end is its own.
     type ElementsIter: Iterator<Item = Self::Node> + Drop;
 
     /// How many elements there are.
     fn len(&self) -> usize
         ensures { result ≡ length (elements_of (Self.tree self.now)) };
 
-    /// The elements, in order, and then the end.
+    /// The elements, in order, and then the end. Callers stop there: nothing is said of calls after the end.
     fn elements(&self) -> Self::ElementsIter
         ensures can { Self.ElementsIter.can_next result }
         ensures ends { IsFinite (Self.ElementsIter.remaining result) }

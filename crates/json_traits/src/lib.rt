@@ -4,7 +4,9 @@
 //! [`JsonNumber`] are its members, its elements and its number. [`HasTree`] is the JSON tree that each of them stands for, of which
 //! all contracts speak. So code that is written once over `Node` runs on every kind of node, and is proved once. A number
 //! writes `to_number` alone: its other calls answer from that. A [`NodeIdentity`] tells a node from those at other places under
-//! its root, where the representation tells places apart. [`Json`] is a representation: its nodes, its prepared keys, and the buffers of its string nodes.
+//! its root, where the representation tells places apart. [`Json`] is a representation: its nodes, its prepared keys, and the buffers
+//! of its string nodes. A function over nodes that calls itself takes a [`NodeFamily`], and [`FamilyOf`] is that of each kind of node.
+//! [`laws`] says that keys rise at each level of every node's tree.
 //!
 //! The keyword `type` of a schema names one type, or several in an array. [`types::JsonType`] is a type, with its name;
 //! [`types::JsonTypeSet`] is a set of types, in one byte, which also says whether it allows a value.
@@ -33,7 +35,9 @@ mod json;
 mod json_number;
 pub mod laws;
 mod node;
+mod node_family;
 mod object;
+mod rising;
 #[cfg(test)]
 mod tests;
 pub mod types;
@@ -45,4 +49,5 @@ pub use identity::NodeIdentity;
 pub use json::Json;
 pub use json_number::JsonNumber;
 pub use node::Node;
+pub use node_family::{FamilyOf, NodeFamily};
 pub use object::Object;

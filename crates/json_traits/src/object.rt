@@ -14,7 +14,7 @@ use crate::has_tree::HasTree;
 pub trait Object<'a>: Copy + HasTree {
     /// What stands for a member's value.
     type Node: Copy + HasTree;
-    /// The iterator over the members.
+    /// The iterator over the members. What it gives after the end is its own.
     type MembersIter: Iterator<Item = (&'a str, Self::Node)> + Drop;
     /// A key that is looked up often, made ready once.
     type Key: HasName + Drop;
@@ -27,7 +27,8 @@ pub trait Object<'a>: Copy + HasTree {
     fn is_empty(&self) -> bool
         ensures { IsTrue result ↔ (pairs_of (Self.tree self.now) ≡ []) };
 
-    /// The members, as pairs of a key and what stands for the value under it, in key order, and then the end.
+    /// The members, as pairs of a key and what stands for the value under it, in key order, and then the end. Callers stop
+    /// there: nothing is said of calls after the end.
     fn members(&self) -> Self::MembersIter
         ensures can { Self.MembersIter.can_next result }
         ensures ends { IsFinite (Self.MembersIter.remaining result) }

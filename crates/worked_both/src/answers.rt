@@ -95,7 +95,7 @@ fn two_members(alloc: Global) -> Option<Value> {
 }
 
 /// The value of a row of the table.
-fn value_of(alloc: Global, name: &str) -> Option<Value> {
+pub(crate) fn value_of(alloc: Global, name: &str) -> Option<Value> {
     match name {
         "null" => Some(Value::Null),
         "true" => Some(Value::Bool(true)),

@@ -5,14 +5,15 @@ ghost use Rattle.judge.specs.Passes.{Passes};
 ghost use Rattle.json_exact.specs.Trees.{tree};
 ghost use Rattle.json_model.specs.Same.{Same};
 ghost use Rattle.judge.specs.Right.{Answer, Right, RightOnTrees};
+ghost use Rattle.judge.specs.Validity.{IsValid};
 ghost use Rattle.judge.specs.Verdict.{Verdict};
 ghost use Rattle.judge.specs.declared.errors.KeywordError.{KeywordError};
 
 use crate::checks::Checks;
 use json_exact::Value;
 use json_semantics::ValueNode;
-use json_semantics::laws::keys_rise;
 use json_traits::Node;
+use json_traits::laws::keys_rise;
 use std::alloc::Global;
 
 /// Each pair of slices has at most one right answer.
@@ -47,12 +48,17 @@ pub fn some_answer_on_values(keywords: &Value, document: &Value)
     let _document = ValueNode::new(document);
 }
 
-/// Documents that are equal by JSON equality have one verdict under each keyword object: 1 is 1.0. It passes over each document
-/// once, by recursion as deep as it nests, and takes no memory.
-pub fn equal_documents_have_one_verdict(keywords: &Value, left: &Value, right: &Value)
-    ensures { Same (tree left.now) (tree right.now) → Verdict (tree keywords.now) (tree left.now) ↔ Verdict (tree keywords.now) (tree right.now) }
+/// Documents that are equal by JSON equality have one verdict under each valid keyword object, whatever holds the three: 1 is
+/// 1.0. It passes over each document once, by recursion as deep as it nests, and takes no memory.
+pub fn equal_documents_have_one_verdict<'a, K: Node<'a>, M: Node<'a>, N: Node<'a>>(
+    keywords: &K,
+    left: &M,
+    right: &N,
+)
+    ensures { IsValid (K.tree keywords.now) → Same (M.tree left.now) (N.tree right.now)
+        → Verdict (K.tree keywords.now) (M.tree left.now) ↔ Verdict (K.tree keywords.now) (N.tree right.now) }
 {
-    let _keywords = ValueNode::new(keywords);
+    let _keywords = keywords;
     keys_rise(left);
     keys_rise(right);
 }

@@ -1,1 +1,3 @@
 pub mod CharLaws
+pub mod LaneLaws
+pub mod WordLaws

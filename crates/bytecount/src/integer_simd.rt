@@ -1,0 +1,120 @@
+//! Counts over words of eight bytes.
+
+ghost use Rattle.std.specs.Prelude.{◌≡◌, ◌==◌, ◌+◌, ◌-◌, ◌*◌, ◌<◌, ◌≤◌, ℕ, List, length, drop, count_by};
+ghost use Rattle.std.specs.Simd.Lanes.{sum_l, chunk, number_l};
+ghost use Rattle.bytecount.specs.Bytes.{begins_char};
+ghost use Rattle.bytecount.specs.Tallies.{IsWord, WordTallies};
+
+use crate::byte_test::{BeginsChar, ByteTest, Equals};
+
+/// How many bytes one run of words takes: 255 words, so that no byte of their sum passes 255.
+const RUN: usize = 2040;
+
+/// The word of the eight bytes from `at` on.
+#[inline(always)]
+fn word_at(bytes: &[u8], at: usize) -> u64
+    requires { at + 8 ≤ length bytes.now }
+    ensures { IsWord (chunk at 8 bytes.now) result }
+{
+    u64::from_le_bytes([
+        bytes[at],
+        bytes[at + 1],
+        bytes[at + 2],
+        bytes[at + 3],
+        bytes[at + 4],
+        bytes[at + 5],
+        bytes[at + 6],
+        bytes[at + 7],
+    ])
+}
+
+/// The marks of `words` words from `from` on, added up.
+#[inline(always)]
+fn word_tallies<T: ByteTest>(test: &T, bytes: &[u8], from: usize, words: usize) -> u64
+    requires within { from + 8 * words ≤ length bytes.now }
+    requires room { words ≤ 255 }
+    ensures { WordTallies (T.passes test.now) words (chunk from (8 * words) bytes.now) result }
+{
+    let mut counts = 0;
+    for i in 0..words {
+        counts += test.word_marks(word_at(bytes, from + 8 * i));
+    }
+    counts
+}
+
+/// The marks of the last `size` bytes.
+#[inline(always)]
+fn tail_word_marks<T: ByteTest>(test: &T, bytes: &[u8], size: usize) -> u64
+    requires enough { 8 ≤ length bytes.now }
+    requires some { 0 < size }
+    requires short { size < 8 }
+    ensures { WordTallies (T.passes test.now) 1 (drop (length bytes.now - size) bytes.now) result }
+{
+    test.word_marks(word_at(bytes, bytes.len() - 8)) >> (64 - 8 * size)
+}
+
+/// The sum of the bytes of a word.
+#[inline(always)]
+fn byte_sum(word: u64) -> usize
+    ensures { (bytes : List ℕ) → IsWord bytes word → result ≡ sum_l bytes }
+{
+    let [a, b, c, d, e, f, g, h] = word.to_le_bytes();
+    a as usize
+        + b as usize
+        + c as usize
+        + d as usize
+        + e as usize
+        + f as usize
+        + g as usize
+        + h as usize
+}
+
+/// What is counted from `from` on, where that is less than a run.
+#[inline(always)]
+fn count_rest<T: ByteTest>(test: &T, bytes: &[u8], from: usize) -> usize
+    requires enough { 8 ≤ length bytes.now }
+    requires within { from ≤ length bytes.now }
+    requires short { length bytes.now < from + 2040 }
+    ensures { result ≡ count_by (T.passes test.now) (drop from bytes.now) }
+{
+    let words = (bytes.len() - from) / 8;
+    let size = (bytes.len() - from) % 8;
+    let counts = word_tallies(test, bytes, from, words);
+    if size == 0 {
+        return byte_sum(counts);
+    }
+    byte_sum(counts + tail_word_marks(test, bytes, size))
+}
+
+/// What is counted in all.
+#[inline(always)]
+fn count_all<T: ByteTest>(test: &T, bytes: &[u8]) -> usize
+    requires enough { 8 ≤ length bytes.now }
+    ensures { result ≡ count_by (T.passes test.now) bytes.now }
+{
+    if bytes.len() < RUN {
+        return count_rest(test, bytes, 0);
+    }
+    let runs = bytes.len() / RUN;
+    let mut total = 0;
+    for i in 0..runs {
+        total += byte_sum(word_tallies(test, bytes, RUN * i, 255));
+    }
+    total + count_rest(test, bytes, RUN * runs)
+}
+
+/// How many bytes equal the needle, by words.
+pub fn chunk_count(haystack: &[u8], needle: u8) -> usize
+    requires { 8 ≤ length haystack.now }
+    ensures { result ≡ count_by (λ b. b == needle) haystack.now }
+{
+    count_all(&Equals { needle }, haystack)
+}
+
+/// How many bytes begin a code point, by words.
+pub fn chunk_num_chars(utf8_chars: &[u8]) -> usize
+    requires { 8 ≤ length utf8_chars.now }
+    ensures { result ≡ count_by begins_char utf8_chars.now }
+{
+    count_all(&BeginsChar, utf8_chars)
+}

@@ -1,4 +1,4 @@
-use Rattle.bytecount.proofs.WordLaws.{begins_word}
+use Rattle.bytecount.proofs.WordMarkLaws.{begins_word}
 use Rattle.bytecount.proofs.byte_test.BeginsCharByteTest.word_marks.Goals as goal
 
 pub returns : goal.returns

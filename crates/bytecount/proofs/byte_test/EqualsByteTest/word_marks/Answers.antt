@@ -1,5 +1,5 @@
 use Rattle.std.proofs.Common.{arith}
-use Rattle.bytecount.proofs.WordLaws.{equal_word}
+use Rattle.bytecount.proofs.WordMarkLaws.{equal_word}
 use Rattle.bytecount.proofs.byte_test.EqualsByteTest.word_marks.Goals as goal
 
 pub returns : goal.returns

@@ -108,7 +108,7 @@ select-le (false ∷ ms) k (x ∷ xs) (y ∷ ys) (hx, hxs) (hy, hys) = (hy, sele
 -- the marks of n bytes, all but the last `size` of them made 0 by a mask
 pub Tallies-kept : (p : ℕ → Bool) (n size : ℕ) (bytes : List ℕ) → length bytes ≡ n
     → Tallies p n 1 (drop (n - size) bytes)
-      (sel_l (zip2 leb (replicate n (n - size)) (range_with_len 0 n)) (map (mark p) bytes) (replicate n 0))
+    (sel_l (zip2 leb (replicate n (n - size)) (range_with_len 0 n)) (map (mark p) bytes) (replicate n 0))
 Tallies-kept p n size bytes e =
     let marks = map (mark p) bytes in
     let long : length marks ≡ n = length-map bytes (mark p) ∙ e in

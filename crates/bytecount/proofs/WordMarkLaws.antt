@@ -87,8 +87,8 @@ equal_byte n ln d ld =
 -- the bytes that equal n, from the word and n eight times
 pub equal_word : (n : ℕ) (bytes : List ℕ) (word : ℕ) → n < 256 → IsWord bytes word
     → (let apart = bit_xor word (n * 72340172838076673) in
-       let sums = bit_and apart 9187201950435737471 + 9187201950435737471 in
-       bit_xor (bit_and (bit_or sums apart) 9259542123273814144) 9259542123273814144 / 128)
+    let sums = bit_and apart 9187201950435737471 + 9187201950435737471 in
+    bit_xor (bit_and (bit_or sums apart) 9259542123273814144) 9259542123273814144 / 128)
     ≡ number_l 256 (map (mark (λ b. eqb b n)) bytes)
 equal_word n bytes word lt is =
     let lows = constant 127 (omega arith) is in
@@ -122,13 +122,13 @@ begins_byte d lt =
 -- the bytes that begin a code point, from the word with its top bits turned
 pub begins_word : (bytes : List ℕ) (word : ℕ) → IsWord bytes word
     → (let turned = bit_xor word 9259542123273814144 in
-       let seconds = bit_and turned 4629771061636907072 in
-       bit_and (bit_or (seconds + seconds) turned) 9259542123273814144 / 128)
+    let seconds = bit_and turned 4629771061636907072 in
+    bit_and (bit_or (seconds + seconds) turned) 9259542123273814144 / 128)
     ≡ number_l 256 (map (mark begins_char) bytes)
 begins_word bytes word is =
     let tops = constant 128 (omega arith) is in
     let turned = xor-bytewise (itself is) tops in
     let seconds = and-bytewise turned (constant 64 (omega arith) is) in
     let below : (d : ℕ) → d < 256 → bit_and (bit_xor d 128) 64 + bit_and (bit_xor d 128) 64 < 256 =
-        λ d h. omega (arith, and_le_r (bit_xor d 128) 64) in
+    λ d h. omega (arith, and_le_r (bit_xor d 128) 64) in
     shifted (mark begins_char) begins_byte (and-bytewise (or-bytewise (add-bytewise below seconds seconds) turned) tops)

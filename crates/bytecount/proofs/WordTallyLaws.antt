@@ -54,8 +54,8 @@ WordTallies-shifted p size bytes word long le e =
       lanes = drop m marks ++ replicate m 0;
       tallies = Tallies-moved p 8 m bytes long (omega arith);
       value =
-        ap (λ n. n / 2 ^ (64 - 8 * size)) e ∙ ap (λ j. number_l 256 marks / 2 ^ j) shift
-        ∙ shift-bytes m marks each ∙ sym (append-zeros m (drop m marks));
+          ap (λ n. n / 2 ^ (64 - 8 * size)) e ∙ ap (λ j. number_l 256 marks / 2 ^ j) shift
+          ∙ shift-bytes m marks each ∙ sym (append-zeros m (drop m marks));
     }
 
 -- ---- the sum of a word's bytes
@@ -75,5 +75,5 @@ pub sum-eight : (bs : List ℕ) → length bs ≡ 8
     → get_or bs 0 0 + get_or bs 1 0 + get_or bs 2 0 + get_or bs 3 0 + get_or bs 4 0 + get_or bs 5 0 + get_or bs 6 0 + get_or bs 7 0 ≡ sum_l bs
 sum-eight bs e =
     let added : get_or bs 0 0 + get_or bs 1 0 + get_or bs 2 0 + get_or bs 3 0 + get_or bs 4 0 + get_or bs 5 0 + get_or bs 6 0 + get_or bs 7 0
-        ≡ sum_l (pick_l 0 bs (range_with_len 0 8)) = omega arith in
+    ≡ sum_l (pick_l 0 bs (range_with_len 0 8)) = omega arith in
     added ∙ ap sum_l (pick_l_whole 0 bs 8 e)

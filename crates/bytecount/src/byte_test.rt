@@ -1,4 +1,4 @@
-//! What is asked of each byte.
+//! What is asked of each byte, of one or of many at once.
 
 ghost use Rattle.std.specs.Prelude.{◌≡◌, ◌==◌, ℕ, Bool, List, length, map};
 ghost use Rattle.std.specs.Simd.Lanes.{number_l};
@@ -7,35 +7,44 @@ ghost use Rattle.bytecount.specs.Tallies.{mark, IsWord};
 
 use std::simd::prelude::*;
 
-/// A question about a byte, asked of many at once.
+/// A test of a byte. Where many bytes are tested at once, each is marked: by 1 if it passes, else by 0.
 pub(crate) trait ByteTest {
     ghost passes: { Self → ℕ → Bool };
 
-    /// 1 in each of 32 lanes that passes, else 0.
+    /// Whether the byte passes.
+    fn is_met(&self, byte: u8) -> bool
+        ensures { result ≡ passes self.now byte };
+
+    /// The marks of 32 bytes, lane by lane.
     fn marks(&self, lanes: u8x32) -> u8x32
         requires { length lanes ≡ 32 }
         ensures { result ≡ map (mark (passes self.now)) lanes };
 
-    /// 1 in each byte of a word that passes, else 0.
+    /// The marks of the eight bytes of a word, byte by byte.
     fn word_marks(&self, word: u64) -> u64
         ensures { (bytes : List ℕ) → IsWord bytes word → result ≡ number_l 256 (map (mark (passes self.now)) bytes) };
 }
 
-/// The top bit of each byte.
-const TOPS: u64 = 0x8080_8080_8080_8080;
-
-/// Whether a byte is the needle.
+/// The byte is the needle.
 #[derive(Clone, Copy)]
 pub(crate) struct Equals {
     pub needle: u8,
 }
 
-/// Whether a byte begins a code point.
+/// The byte begins a code point: its top two bits are not 10.
 #[derive(Clone, Copy)]
 pub(crate) struct BeginsChar;
 
+/// The top bit of each byte of a word.
+const TOPS: u64 = 0x8080_8080_8080_8080;
+
 impl ByteTest for Equals {
     ghost passes = { λ test b. b == test.needle };
+
+    #[inline(always)]
+    fn is_met(&self, byte: u8) -> bool {
+        byte == self.needle
+    }
 
     #[inline(always)]
     fn marks(&self, lanes: u8x32) -> u8x32 {
@@ -44,8 +53,8 @@ impl ByteTest for Equals {
             .select(u8x32::splat(1), u8x32::splat(0))
     }
 
-    // A byte differs from the needle where one of its seven low bits does, so that 127 more reach the top bit, or its
-    // top bit does. No byte of the sum passes 254.
+    // A byte differs from the needle where one of its low seven bits does, so that 127 more reach the top bit, or where
+    // its top bit does. No byte of the sum passes 254, so none carries into the next.
     #[inline(always)]
     fn word_marks(&self, word: u64) -> u64 {
         let apart = word ^ (self.needle as u64 * 0x0101_0101_0101_0101);
@@ -59,14 +68,19 @@ impl ByteTest for BeginsChar {
     ghost passes = { λ _. begins_char };
 
     #[inline(always)]
+    fn is_met(&self, byte: u8) -> bool {
+        byte >> 6 != 0b10
+    }
+
+    // Half way round the circle of 256, the bytes that continue a code point, 128 to 191, are those below 64.
+    #[inline(always)]
     fn marks(&self, lanes: u8x32) -> u8x32 {
-        // Half the circle further, the bytes that continue a code point, 128 to 191, are those below 64.
         (lanes + u8x32::splat(128))
             .simd_ge(u8x32::splat(64))
             .select(u8x32::splat(1), u8x32::splat(0))
     }
 
-    // Where the top bit is turned, a byte that begins a code point has one of its two top bits.
+    // With its top bit turned, a byte that begins a code point has one of its top two bits set.
     #[inline(always)]
     fn word_marks(&self, word: u64) -> u64 {
         let turned = word ^ TOPS;

@@ -1,4 +1,8 @@
-//! Counts over words of eight bytes.
+//! Counts over words of 64 bits, eight bytes each.
+//!
+//! The marks of the words are added byte by byte, in one word, for at most 255 words, so that no byte carries into the next;
+//! then its bytes are added up. Where the slice ends inside a word, the last eight bytes are one word more, and the marks of
+//! those that were counted before are shifted out.
 
 ghost use Rattle.std.specs.Prelude.{◌≡◌, ◌==◌, ◌+◌, ◌-◌, ◌*◌, ◌<◌, ◌≤◌, ℕ, List, length, drop, count_by};
 ghost use Rattle.std.specs.Simd.Lanes.{sum_l, chunk, number_l};
@@ -7,10 +11,13 @@ ghost use Rattle.bytecount.specs.Tallies.{IsWord, WordTallies};
 
 use crate::byte_test::{BeginsChar, ByteTest, Equals};
 
-/// How many bytes one run of words takes: 255 words, so that no byte of their sum passes 255.
-const RUN: usize = 2040;
+/// How many words one run takes, so that no byte of their sum passes 255.
+const WORDS: usize = 255;
 
-/// The word of the eight bytes from `at` on.
+/// How many bytes one run takes.
+const RUN: usize = 8 * WORDS;
+
+/// The word of the eight bytes from `at` on, the first of them lowest.
 #[inline(always)]
 fn word_at(bytes: &[u8], at: usize) -> u64
     requires { at + 8 ≤ length bytes.now }
@@ -28,7 +35,7 @@ fn word_at(bytes: &[u8], at: usize) -> u64
     ])
 }
 
-/// The marks of `words` words from `from` on, added up.
+/// The marks of `words` words from `from` on, added up byte by byte.
 #[inline(always)]
 fn word_tallies<T: ByteTest>(test: &T, bytes: &[u8], from: usize, words: usize) -> u64
     requires within { from + 8 * words ≤ length bytes.now }
@@ -69,12 +76,12 @@ fn byte_sum(word: u64) -> usize
         + h as usize
 }
 
-/// What is counted from `from` on, where that is less than a run.
+/// How many bytes from `from` on pass the test, where those are less than a run.
 #[inline(always)]
 fn count_rest<T: ByteTest>(test: &T, bytes: &[u8], from: usize) -> usize
     requires enough { 8 ≤ length bytes.now }
     requires within { from ≤ length bytes.now }
-    requires short { length bytes.now < from + 2040 }
+    requires short { length bytes.now < from + RUN }
     ensures { result ≡ count_by (T.passes test.now) (drop from bytes.now) }
 {
     let words = (bytes.len() - from) / 8;
@@ -86,7 +93,7 @@ fn count_rest<T: ByteTest>(test: &T, bytes: &[u8], from: usize) -> usize
     byte_sum(counts + tail_word_marks(test, bytes, size))
 }
 
-/// What is counted in all.
+/// How many bytes pass the test.
 #[inline(always)]
 fn count_all<T: ByteTest>(test: &T, bytes: &[u8]) -> usize
     requires enough { 8 ≤ length bytes.now }
@@ -98,12 +105,12 @@ fn count_all<T: ByteTest>(test: &T, bytes: &[u8]) -> usize
     let runs = bytes.len() / RUN;
     let mut total = 0;
     for i in 0..runs {
-        total += byte_sum(word_tallies(test, bytes, RUN * i, 255));
+        total += byte_sum(word_tallies(test, bytes, RUN * i, WORDS));
     }
     total + count_rest(test, bytes, RUN * runs)
 }
 
-/// How many bytes equal the needle, by words.
+/// How many bytes equal the needle, of at least 8.
 pub fn chunk_count(haystack: &[u8], needle: u8) -> usize
     requires { 8 ≤ length haystack.now }
     ensures { result ≡ count_by (λ b. b == needle) haystack.now }
@@ -111,7 +118,7 @@ pub fn chunk_count(haystack: &[u8], needle: u8) -> usize
     count_all(&Equals { needle }, haystack)
 }
 
-/// How many bytes begin a code point, by words.
+/// How many bytes have other top two bits than 10, of at least 8.
 pub fn chunk_num_chars(utf8_chars: &[u8]) -> usize
     requires { 8 ≤ length utf8_chars.now }
     ensures { result ≡ count_by begins_char utf8_chars.now }

@@ -1,13 +1,26 @@
-//! Counts that look at one byte after the other.
+//! Counts that look at one byte after the other: the plain loops.
 
 ghost use Rattle.std.specs.Prelude.{◌≡◌, ◌==◌, ◌<◌, ◌^◌, length, count_by};
 ghost use Rattle.bytecount.specs.Bytes.{begins_char};
+
+use crate::byte_test::{BeginsChar, ByteTest, Equals};
+
+/// How many bytes pass the test.
+fn count_all<T: ByteTest>(test: &T, bytes: &[u8]) -> usize
+    ensures { result ≡ count_by (T.passes test.now) bytes.now }
+{
+    let mut total = 0;
+    for byte in bytes {
+        total += test.is_met(*byte) as usize;
+    }
+    total
+}
 
 /// How many bytes equal the needle, one byte after the other.
 pub fn naive_count(utf8_chars: &[u8], needle: u8) -> usize
     ensures { result ≡ count_by (λ b. b == needle) utf8_chars.now }
 {
-    utf8_chars.iter().filter(|byte| **byte == needle).count()
+    count_all(&Equals { needle }, utf8_chars)
 }
 
 /// How many bytes equal the needle, in a sum of 32 bits: so at most 2^32 - 1 bytes are taken.
@@ -22,15 +35,9 @@ pub fn naive_count_32(haystack: &[u8], needle: u8) -> usize
     total as usize
 }
 
-fn begins_char(byte: u8) -> bool
-    ensures { result ≡ begins_char byte }
-{
-    byte >> 6 != 0b10
-}
-
 /// How many bytes have other top two bits than 10, one byte after the other.
 pub fn naive_num_chars(utf8_chars: &[u8]) -> usize
     ensures { result ≡ count_by begins_char utf8_chars.now }
 {
-    utf8_chars.iter().filter(|byte| begins_char(**byte)).count()
+    count_all(&BeginsChar, utf8_chars)
 }

@@ -1,17 +1,24 @@
-//! Counts over vectors.
+//! Counts over vectors of 32 bytes.
+//!
+//! The marks of the vectors are added lane by lane, for at most 255 vectors, so that no lane passes 255; then the lanes are
+//! added up. Where the slice ends inside a vector, the last 32 bytes are one vector more, with a mask over those of its
+//! lanes that were counted before.
 
 ghost use Rattle.std.specs.Prelude.{◌≡◌, ◌==◌, ◌+◌, ◌-◌, ◌*◌, ◌<◌, ◌≤◌, length, drop, count_by};
-ghost use Rattle.std.specs.Simd.Lanes.{Each1, sum_l, chunk};
+ghost use Rattle.std.specs.Simd.Lanes.{sum_l, chunk};
 ghost use Rattle.bytecount.specs.Bytes.{begins_char};
 ghost use Rattle.bytecount.specs.Tallies.{Tallies};
 
 use crate::byte_test::{BeginsChar, ByteTest, Equals};
 use std::simd::prelude::*;
 
-/// How many bytes one run takes: 255 vectors, so that no lane passes 255.
-const RUN: usize = 8160;
+/// How many vectors one run takes, so that no lane of their sum passes 255.
+const VECTORS: usize = 255;
 
-/// The lanes of `vectors` vectors of 32 bytes from `from` on, added up.
+/// How many bytes one run takes.
+const RUN: usize = 32 * VECTORS;
+
+/// The marks of `vectors` vectors from `from` on, added up lane by lane.
 #[inline(always)]
 fn tallies<T: ByteTest>(test: &T, bytes: &[u8], from: usize, vectors: usize) -> u8x32
     requires within { from + 32 * vectors ≤ length bytes.now }
@@ -26,7 +33,7 @@ fn tallies<T: ByteTest>(test: &T, bytes: &[u8], from: usize, vectors: usize) -> 
     counts
 }
 
-/// The marks of the last `size` bytes, in a vector of the last 32.
+/// The marks of the last `size` bytes: those of the last 32, with 0 in the other lanes.
 #[inline(always)]
 fn tail_marks<T: ByteTest>(test: &T, bytes: &[u8], size: usize) -> u8x32
     requires enough { 32 ≤ length bytes.now }
@@ -52,12 +59,12 @@ fn sum(counts: u8x32) -> usize
     counts.cast::<u64>().strict_reduce_sum() as usize
 }
 
-/// What is counted from `from` on, where that is little.
+/// How many bytes from `from` on pass the test, where those are less than a run.
 #[inline(always)]
 fn count_rest<T: ByteTest>(test: &T, bytes: &[u8], from: usize) -> usize
     requires enough { 32 ≤ length bytes.now }
     requires within { from ≤ length bytes.now }
-    requires short { length bytes.now < from + 8160 }
+    requires short { length bytes.now < from + RUN }
     ensures { result ≡ count_by (T.passes test.now) (drop from bytes.now) }
 {
     let vectors = (bytes.len() - from) / 32;
@@ -69,9 +76,9 @@ fn count_rest<T: ByteTest>(test: &T, bytes: &[u8], from: usize) -> usize
     sum(counts.strict_add(tail_marks(test, bytes, size)))
 }
 
-/// What is counted in all.
+/// How many bytes pass the test.
 #[inline(always)]
-pub(crate) fn count_all<T: ByteTest>(test: &T, bytes: &[u8]) -> usize
+fn count_all<T: ByteTest>(test: &T, bytes: &[u8]) -> usize
     requires enough { 32 ≤ length bytes.now }
     ensures { result ≡ count_by (T.passes test.now) bytes.now }
 {
@@ -81,12 +88,12 @@ pub(crate) fn count_all<T: ByteTest>(test: &T, bytes: &[u8]) -> usize
     let runs = bytes.len() / RUN;
     let mut total = 0;
     for i in 0..runs {
-        total += sum(tallies(test, bytes, RUN * i, 255));
+        total += sum(tallies(test, bytes, RUN * i, VECTORS));
     }
     total + count_rest(test, bytes, RUN * runs)
 }
 
-/// How many bytes equal the needle, by vectors.
+/// How many bytes equal the needle, of at least 32.
 pub fn chunk_count(haystack: &[u8], needle: u8) -> usize
     requires { 32 ≤ length haystack.now }
     ensures { result ≡ count_by (λ b. b == needle) haystack.now }
@@ -94,7 +101,7 @@ pub fn chunk_count(haystack: &[u8], needle: u8) -> usize
     count_all(&Equals { needle }, haystack)
 }
 
-/// How many bytes begin a code point, by vectors.
+/// How many bytes have other top two bits than 10, of at least 32.
 pub fn chunk_num_chars(utf8_chars: &[u8]) -> usize
     requires { 32 ≤ length utf8_chars.now }
     ensures { result ≡ count_by begins_char utf8_chars.now }

@@ -64,12 +64,19 @@ byte_lt [] each i = omega arith
 byte_lt (b ∷ bytes) (lt, each) zero = lt
 byte_lt (b ∷ bytes) (lt, each) (suc i) = byte_lt bytes each i
 
--- a word's own bytes are those that make it
+from_le_bytes-value : (bytes : List ℕ) → length bytes ≡ 8 → from_le_bytes w64 bytes ≡ number_l 256 bytes
+from_le_bytes-value bytes long =
+    let spelt : number_l 256 (pick_l 0 bytes (range_with_len 0 8)) ≡ from_le_bytes w64 bytes = omega arith in
+    sym spelt ∙ ap (number_l 256) (pick_l_whole 0 bytes 8 long)
+
+-- the word that eight bytes make
+pub IsWord-from_le_bytes : (bytes : List ℕ) → length bytes ≡ 8 → Each1 (λ byte. byte < 256) bytes → IsWord bytes (from_le_bytes w64 bytes)
+IsWord-from_le_bytes bytes long each = record { long = long; each = each; value = from_le_bytes-value bytes long }
+
+-- its own bytes are those
 pub word-bytes : (bytes : List ℕ) (word : ℕ) → IsWord bytes word → to_le_bytes w64 word ≡ bytes
 word-bytes bytes word is =
-    let spelt : number_l 256 (pick_l 0 bytes (range_with_len 0 8)) ≡ from_le_bytes w64 bytes = omega arith in
-    le_bytes_8 bytes word is.long (byte_lt bytes is.each)
-    (is.value ∙ ap (number_l 256) (sym (pick_l_whole 0 bytes 8 is.long)) ∙ spelt)
+    le_bytes_8 bytes word is.long (byte_lt bytes is.each) (is.value ∙ sym (from_le_bytes-value bytes is.long))
 
 pub sum-eight : (bs : List ℕ) → length bs ≡ 8
     → get_or bs 0 0 + get_or bs 1 0 + get_or bs 2 0 + get_or bs 3 0 + get_or bs 4 0 + get_or bs 5 0 + get_or bs 6 0 + get_or bs 7 0 ≡ sum_l bs

@@ -1,4 +1,4 @@
-use Rattle.std.proofs.Common.{◌+◌, ◌-◌, ◌*◌, ◌/◌, ◌%◌, length, ap, ◌∙◌, arith, count_by}
+use Rattle.std.proofs.Common.{◌-◌, ◌*◌, ◌/◌, ◌%◌, length, ap, ◌∙◌, arith, count_by}
 use Rattle.bytecount.proofs.CountLaws.{chunk-whole, chunk-rest}
 use Rattle.bytecount.proofs.WordTallyLaws.{WordTallies-word, WordTallies-both, WordTallies-lt}
 use Rattle.bytecount.proofs.integer_simd.count_rest.Goals as goal

@@ -13,8 +13,9 @@ pub overflow_add-counts : goal.overflow_add-counts
 overflow_add-counts g c =
     let p = g.T.ByteTest.passes c.args.test.now in
     let next = chunk (c.args.from + 32 * c.loop-i.i) 32 c.args.bytes.now in
+    let long = length-chunk (c.args.from + 32 * c.loop-i.i) 32 c.args.bytes.now (omega arith) in
     subst (λ marks. Each2 (λ (a b : ℕ). Fits w8 (a + b)) c.loop-i.counts marks) (sym c.marks-counts.ensures)
-    (Tallies-fit c.loop-i.invariant (Tallies-marks p next (length-chunk (c.args.from + 32 * c.loop-i.i) 32 c.args.bytes.now (omega arith))) (omega arith))
+    (Tallies-fit c.loop-i.invariant (Tallies-marks p next long) (omega arith))
 
 pub loop-i-preserved : goal.loop-i-preserved
 loop-i-preserved g c =

@@ -39,7 +39,7 @@ static const struct kernel kernels[] = {
     {"peer num_chars", NULL, peer_num_chars, 0, -1},
 #endif
 };
-enum { KERNELS = sizeof kernels / sizeof kernels[0], PLAIN_CHARS = KERNELS / 2, ROUNDS = 25 };
+enum { KERNELS = sizeof kernels / sizeof kernels[0], PLAIN_CHARS = KERNELS / 2, ROUNDS = 200 };
 
 static const size_t sizes[] = {16, 100, 1000, 10000, 1000000, 16000000};
 enum { SIZES = sizeof sizes / sizeof sizes[0] };

@@ -14,15 +14,19 @@
 //! each later one has. So every slice has an answer, UTF-8 or not: what is counted is bytes, and [`laws`] says that in a
 //! text they are as many as its code points.
 //!
-//! [`count`] and [`num_chars`] call [`naive_count`] and [`naive_num_chars`], which look at one byte after the other.
-//! [`naive_count_32`] does so with a sum of 32 bits. Each call reads every byte once and takes no memory.
+//! Each count is written three times, with the same answer. [`naive_count`] and [`naive_num_chars`] look at one byte after
+//! the other, [`integer_simd`] at eight at a time in a word, and [`simd`] at 32 at a time in a vector. [`count`] and
+//! [`num_chars`] choose by the length of the slice. No call takes memory.
 #![tactic(auto)]
 
-mod chars;
+mod by_length;
+mod byte_test;
+pub mod integer_simd;
 pub mod laws;
-mod needle;
+mod naive;
+pub mod simd;
 #[cfg(test)]
 mod tests;
 
-pub use chars::{naive_num_chars, num_chars};
-pub use needle::{count, naive_count, naive_count_32};
+pub use by_length::{count, num_chars};
+pub use naive::{naive_count, naive_count_32, naive_num_chars};

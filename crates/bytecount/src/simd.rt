@@ -1,0 +1,3 @@
+//! Counts over vectors.
+
+pub mod generic;

@@ -6,7 +6,7 @@ ghost use Rattle.judge.specs.Lines.{AreShort, lines_of};
 ghost use Rattle.judge.specs.Ran.{Ran};
 ghost use Rattle.judge.specs.Words.{IsCheck};
 
-use crate::answer::{CheckTask, LineTask};
+use crate::answer::{CheckCommand, Command};
 use crate::lines::{feed, finish};
 use crate::{Sink, Source, Status};
 use std::alloc::Global;
@@ -42,7 +42,7 @@ pub fn run<S: Source, K: Sink>(
         → (result ≡ Status.Done) ⊎ (result ≡ Status.OutOfMemory) }
 {
     if asks_for_check(words) {
-        answer_lines(&CheckTask, alloc, source, sink)
+        answer_lines(&CheckCommand, alloc, source, sink)
     } else {
         Status::BadWords
     }
@@ -60,13 +60,13 @@ fn asks_for_check(words: &[String]) -> bool
 }
 
 // Answers each line that the source has left.
-fn answer_lines<T: LineTask, S: Source, K: Sink>(
-    task: &T,
+fn answer_lines<C: Command, S: Source, K: Sink>(
+    command: &C,
     alloc: Global,
     source: &mut S,
     sink: &mut K,
 ) -> Status
-    ensures ran { Ran (T.is_answer task.now)
+    ensures ran { Ran (C.is_answer command.now)
         (S.left source.old) (S.left source.new) (K.written sink.old) (K.written sink.new) result }
     ensures good_words { result ≢ Status.BadWords }
     ensures read_fault { result ≡ Status.ReadFault → Rose (S.faults source.old) (S.faults source.new) }
@@ -79,12 +79,12 @@ fn answer_lines<T: LineTask, S: Source, K: Sink>(
             return Status::ReadFault;
         };
         if count == 0 {
-            if let Err(status) = finish(task, alloc, &line, sink) {
+            if let Err(status) = finish(command, alloc, &line, sink) {
                 return status;
             }
             return Status::Done;
         }
-        if let Err(status) = feed(task, alloc, &buffer[..count], &mut line, sink) {
+        if let Err(status) = feed(command, alloc, &buffer[..count], &mut line, sink) {
             return status;
         }
     }

@@ -26,12 +26,15 @@ returns-clause-ran g c = ran_too_much _ _ _ _ _ _ c.loop-turn.invariant.going c.
 pub returns-in-Err-clause-ran : goal.returns-in-Err-clause-ran
 returns-in-Err-clause-ran g c =
     let taken = rw c.if-count-eq0.true at c.in-Ok.ensures.bytes.0 in
-    let finishes = rw c.deref.ensures.value at c.finish.ensures.finishes in
-    ran_unfinished _ _ _ _ _ _ _ _ _ _ c.loop-turn.invariant.going taken finishes c.in-Err.is
+    let stopped = rw c.deref.ensures.value at c.in-Err.ensures.stops in
+    ran_unfinished _ _ _ _ _ _ _ _ _ c.loop-turn.invariant.going taken stopped
 
 pub returns-then-count-eq0-clause-ran : goal.returns-then-count-eq0-clause-ran
 returns-then-count-eq0-clause-ran g c =
     let taken = rw c.if-count-eq0.true at c.in-Ok.ensures.bytes.0 in
-    let finishes = rw c.deref.ensures.value at c.finish.ensures.finishes in
+    let rest = rw c.deref.ensures.value at c.in_default-finish.ensures.rest in
     let room : 0 < length c.read.new.buffer = omega arith in
-    ran_done _ _ _ _ _ _ _ _ _ c.loop-turn.invariant.going taken (c.in-Ok.ensures.bytes.1 c.if-count-eq0.true room) finishes c.in_default-finish.is
+    ran_done _ _ _ _ _ _ _ _ c.loop-turn.invariant.going taken (c.in-Ok.ensures.bytes.1 c.if-count-eq0.true room) rest
+
+pub finish-requires : goal.finish-requires
+finish-requires g c = rw c.deref.ensures.value c.loop-turn.invariant.going.is_open

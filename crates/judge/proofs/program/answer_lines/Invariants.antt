@@ -4,7 +4,7 @@ use Rattle.judge.proofs.program.answer_lines.Given as goal
 
 abbrev pub invariant-loop-turn : goal.invariant-loop-turn
 invariant-loop-turn g l = record {
-  going : Going (g.T.LineTask.is_answer l.fn.task) (g.S.Source.left l.fn.source) (g.S.Source.left l.source) (g.K.Sink.written l.fn.sink) (g.K.Sink.written l.sink) l.line.items l._turn;
+  going : Going (g.C.Command.is_answer l.fn.command) (g.S.Source.left l.fn.source) (g.S.Source.left l.source) (g.K.Sink.written l.fn.sink) (g.K.Sink.written l.sink) l.line.items l._turn;
   later_source : g.S.Source.faults l.fn.source ≤ g.S.Source.faults l.source;
   later_sink : g.K.Sink.faults l.fn.sink ≤ g.K.Sink.faults l.sink;
 }

@@ -16,7 +16,7 @@ use Rattle.judge.specs.Words.{IsCheck}
 use Rattle.judge.proofs.Texts.{Lacks-cut, cut_once}
 
 -- a hex text has no space
-hex_lacks : (text bytes : List ℕ) → IsHexText text bytes → Lacks 32 text
+pub hex_lacks : (text bytes : List ℕ) → IsHexText text bytes → Lacks 32 text
 hex_lacks [] bytes h = tt
 hex_lacks (x ∷ []) [] h = absurd h
 hex_lacks (x ∷ []) (b ∷ bytes) h = absurd h

@@ -25,9 +25,13 @@ module _ (A : List ℕ → List ℕ → Type 0) where
       → (x : List ℕ) × (y : List ℕ) × Answers A ls x × Answers A ms y × (text ≡ x ++ y)
   answers_parts [] ms text h = ([], text, refl, h, refl)
   answers_parts (l ∷ ls) ms text h =
-      let rest = answers_parts ls ms h.1 h.3 in
-      (h.0 ++ 10 ∷ rest.0, rest.1, (h.0, rest.0, h.2, rest.2, refl), rest.3,
-        h.4 ∙ ap (λ t. h.0 ++ 10 ∷ t) rest.4 ∙ sym (append_assoc h.0 (10 ∷ rest.0) rest.1))
+      let rest = answers_parts ls ms h.1 h.3 in (
+        h.0 ++ 10 ∷ rest.0,
+        rest.1,
+        (h.0, rest.0, h.2, rest.2, refl),
+        rest.3,
+        h.4 ∙ ap (λ t. h.0 ++ 10 ∷ t) rest.4 ∙ sym (append_assoc h.0 (10 ∷ rest.0) rest.1),
+      )
 
   module _ (one : (line a b : List ℕ) → A line a → A line b → a ≡ b) where
     one_text : (lines : List (List ℕ)) (s t : List ℕ) → Answers A lines s → Answers A lines t → s ≡ t
@@ -54,7 +58,7 @@ module _ (A : List ℕ → List ℕ → Type 0) where
     cut_begins line begun others whole h g =
         let same = one line g.0 h.answer g.2 h.right in
         let first : g.0 ++ 10 ∷ g.1 ≡ (h.answer ++ 10 ∷ []) ++ g.1 =
-            ap (λ x. x ++ 10 ∷ g.1) same ∙ sym (append_assoc h.answer (10 ∷ []) g.1) in
+        ap (λ x. x ++ 10 ∷ g.1) same ∙ sym (append_assoc h.answer (10 ∷ []) g.1) in
         (h.missing ++ g.1, g.4 ∙ first ∙ ap (λ t. t ++ g.1) h.parts ∙ append_assoc begun h.missing g.1)
 
     none_begins : (begun whole : List ℕ) → begun ≡ [] → Begins begun whole
@@ -69,9 +73,9 @@ module _ (A : List ℕ → List ℕ → Type 0) where
     stop_begins LineTooLong line begun others whole h g = none_begins begun whole h.1
     stop_begins WriteFault line begun others whole h g = cut_begins line begun others whole h.1 g
     stop_begins OutOfMemory line begun others whole h g = elim h.1 [
-        | inl none ↦ none_begins begun whole none
-        | inr cut ↦ cut_begins line begun others whole cut g
-      ]
+      | inl none ↦ none_begins begun whole none
+      | inr cut ↦ cut_begins line begun others whole cut g
+    ]
 
     before_begins : (status : Status) (taken text whole : List ℕ) → AnswersBefore A status taken text
         → Answers A (lines_of taken) whole → Begins text whole
@@ -80,7 +84,7 @@ module _ (A : List ℕ → List ℕ → Type 0) where
         let answered = one_text h.front both.0 h.answered both.2 h.answers in
         let begun = stop_begins status h.line h.begun h.others both.1 h.stops both.3 in
         let whole_parts : whole ≡ h.answered ++ (h.begun ++ begun.0) =
-            both.4 ∙ ap (λ t. t ++ both.1) answered ∙ ap (λ t. h.answered ++ t) begun.1 in
+        both.4 ∙ ap (λ t. t ++ both.1) answered ∙ ap (λ t. h.answered ++ t) begun.1 in
         (begun.0, whole_parts ∙ sym (append_assoc h.answered h.begun begun.0) ∙ ap (λ t. t ++ begun.0) (sym h.text_parts))
 
     agrees_begins : (status : Status) (taken text whole : List ℕ) → Agrees A status taken text

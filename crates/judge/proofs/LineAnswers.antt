@@ -26,29 +26,29 @@ cut_or_none : (byte : ℕ) (text : List ℕ)
     → ((first : List ℕ) × (second : List ℕ) × (text ≡ first ++ byte ∷ second) × Lacks byte first) ⊎ Lacks byte text
 cut_or_none byte [] = inr tt
 cut_or_none byte (x ∷ text) = elim (eqb_tells x byte) [
-    | inl hit ↦ inl ([], text, ap (λ b. b ∷ text) hit.1, tt)
-    | inr miss ↦ elim (cut_or_none byte text) [
-      | inl cut ↦ inl (x ∷ cut.0, cut.1, ap (λ t. x ∷ t) cut.2, (miss.1, cut.3))
-      | inr none ↦ inr (miss.1, none)
-    ]
+  | inl hit ↦ inl ([], text, ap (λ b. b ∷ text) hit.1, tt)
+  | inr miss ↦ elim (cut_or_none byte text) [
+    | inl cut ↦ inl (x ∷ cut.0, cut.1, ap (λ t. x ∷ t) cut.2, (miss.1, cut.3))
+    | inr none ↦ inr (miss.1, none)
   ]
+]
 
 pair_of : (line first second : List ℕ) → line ≡ first ++ 32 ∷ second → Lacks 32 first
     → ((k : List ℕ) × (d : List ℕ) × IsPair line k d) ⊎ ((k d : List ℕ) → IsPair line k d → ⊥)
 pair_of line first second cut lacks = elim (hex_or_none first) [
-    | inl k ↦ elim (hex_or_none second) [
-      | inl d ↦ inl (k.0, d.0, record { first = first; second = second; whole = cut; keywords_text = k.1; document_text = d.1 })
-      | inr none ↦ inr (λ x y pair. none y ((parts_once line first second x y cut lacks pair).1))
-    ]
-    | inr none ↦ inr (λ x y pair. none x ((parts_once line first second x y cut lacks pair).0))
+  | inl k ↦ elim (hex_or_none second) [
+    | inl d ↦ inl (k.0, d.0, record { first = first; second = second; whole = cut; keywords_text = k.1; document_text = d.1 })
+    | inr none ↦ inr (λ x y pair. none y ((parts_once line first second x y cut lacks pair).1))
   ]
+  | inr none ↦ inr (λ x y pair. none x ((parts_once line first second x y cut lacks pair).0))
+]
 
 -- a line is a pair, or it is none
 pair_or_none : (line : List ℕ) → ((k : List ℕ) × (d : List ℕ) × IsPair line k d) ⊎ ((k d : List ℕ) → IsPair line k d → ⊥)
 pair_or_none line = elim (cut_or_none 32 line) [
-    | inl cut ↦ pair_of line cut.0 cut.1 cut.2 cut.3
-    | inr none ↦ inr (λ k d pair. no_parts line k d none pair)
-  ]
+  | inl cut ↦ pair_of line cut.0 cut.1 cut.2 cut.3
+  | inr none ↦ inr (λ k d pair. no_parts line k d none pair)
+]
 
 -- a line is a pair of one keyword object and one document at most
 pair_once : (line k d x y : List ℕ) → IsPair line k d → IsPair line x y → (k ≡ x) × (d ≡ y)
@@ -103,19 +103,19 @@ is_named k d r h = let name = named k d r h in rw name.1 refl
 
 pub some_line_answer : (line : List ℕ) → (answer : List ℕ) × LineAnswer line answer
 some_line_answer line = elim (pair_or_none line) [
-    | inl p ↦
-        let pair = p.2 in
-        let right = some_answer p.0 p.1 (hex_bytes pair.first p.0 pair.keywords_text) (hex_bytes pair.second p.1 pair.document_text) in
-        let name = named p.0 p.1 right.0 right.1 in
-        (name.0, inl (record { keywords = p.0; document = p.1; verdict = right.0; pair = pair; right = right.1; named = name.1 }))
-    | inr none ↦ (codes "bad line", inr (record { no_pair = none; named = refl }))
-  ]
+  | inl p ↦
+      let pair = p.2 in
+      let right = some_answer p.0 p.1 (hex_bytes pair.first p.0 pair.keywords_text) (hex_bytes pair.second p.1 pair.document_text) in
+      let name = named p.0 p.1 right.0 right.1 in
+      (name.0, inl (record { keywords = p.0; document = p.1; verdict = right.0; pair = pair; right = right.1; named = name.1 }))
+  | inr none ↦ (codes "bad line", inr (record { no_pair = none; named = refl }))
+]
 
 judged_once : (line a b : List ℕ) → IsJudged line a → IsJudged line b → a ≡ b
 judged_once line a b h g =
     let same = pair_once line g.keywords g.document h.keywords h.document g.pair h.pair in
     let right : Right h.keywords h.document g.verdict =
-        subst (λ t. Right h.keywords t g.verdict) same.1 (subst (λ t. Right t g.document g.verdict) same.0 g.right) in
+    subst (λ t. Right h.keywords t g.verdict) same.1 (subst (λ t. Right t g.document g.verdict) same.0 g.right) in
     let verdict = one_answer h.keywords h.document h.verdict g.verdict h.right right in
     let name : Some a ≡ Some b = sym h.named ∙ ap name_of verdict ∙ g.named in
     cc

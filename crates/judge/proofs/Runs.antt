@@ -50,7 +50,10 @@ below_lines (b ∷ x) y =
 short_below : (ls ms : List (List ℕ)) → Below ls ms → AreShort ms → AreShort ls
 short_below [] ms h short = tt
 short_below (l ∷ ls) [] h short = absurd h
-short_below (l ∷ ls) (m ∷ ms) h short = let le = h.0 in let most = short.0 in (omega arith, short_below ls ms h.1 short.1)
+short_below (l ∷ ls) (m ∷ ms) h short =
+    let le = h.0 in
+    let most = short.0 in
+    (omega arith, short_below ls ms h.1 short.1)
 
 short_at : (front : List (List ℕ)) (long : List ℕ) (others : List (List ℕ)) → AreShort (front ++ long ∷ others) → length long ≤ 2 ^ 24
 short_at [] long others h = h.0
@@ -63,6 +66,7 @@ front_of x (Some rest) taken h = (rest, h)
 module _ {A : List ℕ → List ℕ → Type 0} where
   -- ---- between two reads
 
+  -- before the first read
   pub going_none : (a u : Option (List ℕ)) (line : List ℕ) → line ≡ [] → Going A a a u u line 0
   going_none a u line e = rw e (record {
     taken = [];
@@ -72,6 +76,7 @@ module _ {A : List ℕ → List ℕ → Type 0} where
     enough = omega arith;
   })
 
+  -- one more piece was read and fed
   pub going_on : (a b c u v w : Option (List ℕ)) (line bytes line' : List ℕ) (n : ℕ) → Going A a b u v line n → Consumes b c bytes
       → 0 < length bytes → Feeds A line bytes line' v w → IsOpenLine line' → Going A a c u w line' (n + 1)
   going_on a b c u v w line bytes line' n t takes some feeds is_open =
@@ -104,7 +109,8 @@ module _ {A : List ℕ → List ℕ → Type 0} where
 
   -- ---- how a run ends
 
-  pub ran_read_fault : (a b c u v : Option (List ℕ)) (line : List ℕ) (n : ℕ) → Going A a b u v line n → Keeps b c → Ran A a c u v ReadFault
+  pub ran_read_fault : (a b c u v : Option (List ℕ)) (line : List ℕ) (n : ℕ) → Going A a b u v line n → Keeps b c
+      → Ran A a c u v ReadFault
   ran_read_fault a b c u v line n t kept = record {
     taken = t.taken;
     text = t.feeds.text;
@@ -114,7 +120,8 @@ module _ {A : List ℕ → List ℕ → Type 0} where
     agrees = answers_ended a b u v line n t;
   }
 
-  pub ran_too_much : (a b u v : Option (List ℕ)) (line : List ℕ) (n : ℕ) → Going A a b u v line n → 2 ^ 48 ≤ n → Ran A a b u v InputTooLong
+  pub ran_too_much : (a b u v : Option (List ℕ)) (line : List ℕ) (n : ℕ) → Going A a b u v line n → 2 ^ 48 ≤ n
+      → Ran A a b u v InputTooLong
   ran_too_much a b u v line n t over =
       let enough = t.enough in
       record {

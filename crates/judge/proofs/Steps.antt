@@ -1,10 +1,13 @@
 -- How the steps of a run follow one another.
-use Rattle.std.proofs.Common.{◌≡◌, ◌⊎◌, inl, inr, ℕ, ◌^◌, ◌<◌, ◌≤◌, List, [], ◌∷◌, ◌++◌, length, Option, Result, Ok, Err, refl, sym, ap, ◌∙◌, subst, append_assoc, append-nil, length-append, arith}
-use Rattle.std.specs.Prelude.{IfErr, OnOk}
+use Rattle.std.proofs.Common.{◌≡◌, ◌⊎◌, inl, inr, ℕ, ◌+◌, ◌-◌, ◌^◌, ◌<◌, ◌≤◌, List, [], ◌∷◌, ◌++◌, length, Option, Result, Ok, Err, refl, sym, ap, ◌∙◌, subst, append_assoc, append-nil, length-append, arith}
+use Rattle.std.specs.Prelude.{IfErr, OnOk, min}
 use Rattle.std.specs.Io.KnownBytes.{Appends}
 use Rattle.judge.specs.declared.status.Status.{Status}
 use Rattle.judge.specs.declared.status.Status.TheVariants.{WriteFault, LineTooLong, OutOfMemory}
+use Rattle.judge.specs.declared.stream.SinkError.{SinkError}
+use Rattle.judge.specs.declared.stream.SinkError.TheVariants as sink
 use Rattle.judge.specs.Answers.{Answers}
+use Rattle.judge.specs.Faults.{SinkCountsEach}
 use Rattle.judge.specs.Feeding.{Answered, AnswersOne, AnswersRest, Extends, Feeds, IsOpenLine, Puts, StoppedAt, StoppedIn}
 use Rattle.judge.specs.Lines.{IsOneLine, lines_of, text_of}
 use Rattle.judge.specs.Ran.{AnswersBefore, IsCutOff}
@@ -21,6 +24,19 @@ pub still_open : {T : Type 0} (line now part : List ℕ) (result : Result T Stat
 still_open line now part result x e step was one =
     let added = rw e at step.added in
     record { one = rw added (Lacks-append 10 line part was.one one); short = rw e at step.short }
+
+err_is : {U : Type 0} (q : Result U SinkError) (f m : SinkError) → q ≡ Err f → q ≡ Err m → f ≡ m
+err_is q f m is told = let same = sym is ∙ told in cc
+
+-- a write that failed after others that worked
+pub counts_on : {T U : Type 0} (a b c : ℕ) (r : Result T SinkError) (q : Result U SinkError) (e f : SinkError)
+    → r ≡ Err e → q ≡ Err f → f ≡ e → b ≡ a → SinkCountsEach b c r → SinkCountsEach a c q
+counts_on a b c r q e f was is same kept step =
+    record {
+      kept = rw is tt;
+      memory = λ told. step.memory (was ∙ ap Err (sym same ∙ err_is q f sink.OutOfMemory is told)) ∙ kept;
+      one = λ told. step.one (was ∙ ap Err (sym same ∙ err_is q f sink.Failed is told)) ∙ ap (λ n. min (n + 1) (2 ^ 64 - 1)) kept;
+    }
 
 -- so much of a piece was fed, and this rest is left
 pub record Fed (A : List ℕ → List ℕ → Type 0) (a piece rest b : List ℕ) (u v : Option (List ℕ)) : Type 0 where
@@ -46,6 +62,7 @@ some_part line now part status step is_open =
 module _ {A : List ℕ → List ℕ → Type 0} where
   -- ---- a line
 
+  -- an answer to one line
   pub one_answer : (line text : List ℕ) → AnswersOne A line text → Answers A (line ∷ []) text
   one_answer line text a = (a.answer, [], a.right, refl, a.is)
 
@@ -59,11 +76,13 @@ module _ {A : List ℕ → List ℕ → Type 0} where
   cut_off line piece u v result error e a puts =
       record { answer = a.answer; missing = puts.back; right = a.right; parts = sym a.is ∙ puts.parts; some = rw e at puts.missing }
 
+  -- a write of the answer failed
   pub stopped_failing : {T E : Type 0} (line piece : List ℕ) (u v : Option (List ℕ)) (result : Result T E) (error : E) → result ≡ Err error
       → AnswersOne A line piece → Puts u v piece result → length line ≤ 2 ^ 24 → StoppedAt A line u v WriteFault
   stopped_failing line piece u v result error e a puts short =
       record { begun = puts.front; writes = puts.appends; stops = (short, cut_off line piece u v result error e a puts) }
 
+  -- the sink had no memory for the answer
   pub stopped_full : {T E : Type 0} (line piece : List ℕ) (u v : Option (List ℕ)) (result : Result T E) (error : E) → result ≡ Err error
       → AnswersOne A line piece → Puts u v piece result → length line ≤ 2 ^ 24 → StoppedAt A line u v OutOfMemory
   stopped_full line piece u v result error e a puts short =
@@ -89,10 +108,12 @@ module _ {A : List ℕ → List ℕ → Type 0} where
 
   -- ---- pieces
 
+  -- nothing was fed
   pub feeds_none : (line : List ℕ) (told : Option (List ℕ)) → Feeds A line [] line told told
   feeds_none line told =
       record { ended = []; text = []; parts = append-nil line; lines = tt; short = tt; answers = refl; writes = Appends-none told }
 
+  -- a piece was fed, and then another
   pub feeds_both : (a p b q c : List ℕ) (u v w : Option (List ℕ)) → Feeds A a p b u v → Feeds A b q c v w → Feeds A a (p ++ q) c u w
   feeds_both a p b q c u v w f g = record {
     ended = f.ended ++ g.ended;
@@ -127,7 +148,18 @@ module _ {A : List ℕ → List ℕ → Type 0} where
   stopped_first bytes line others u v status parts s = record {
     text = s.begun;
     writes = s.writes;
-    answers = record { front = []; line = line; others = others; parts = parts; short = tt; answered = []; begun = s.begun; text_parts = refl; answers = refl; stops = s.stops };
+    answers = record {
+      front = [];
+      line = line;
+      others = others;
+      parts = parts;
+      short = tt;
+      answered = [];
+      begun = s.begun;
+      text_parts = refl;
+      answers = refl;
+      stops = s.stops;
+    };
   }
 
   -- a run that stops in what comes after lines that were answered
@@ -162,9 +194,11 @@ module _ {A : List ℕ → List ℕ → Type 0} where
 
   -- ---- the loop of `feed`
 
+  -- before the first line ends
   pub fed_none : (a piece : List ℕ) (u : Option (List ℕ)) → IsOpenLine a → Fed A a piece piece a u u
   fed_none a piece u was = record { front = []; parts = refl; feeds = feeds_none a u; is_open = was }
 
+  -- one more line ended
   pub fed_line : (a piece rest b part after c : List ℕ) (u v w : Option (List ℕ)) → Fed A a piece rest b u v
       → rest ≡ part ++ 10 ∷ after → c ≡ [] → Answered A (b ++ part) v w → Fed A a piece after c u w
   fed_line a piece rest b part after c u v w f cut e g = record {
@@ -174,6 +208,7 @@ module _ {A : List ℕ → List ℕ → Type 0} where
     is_open = open_none c e;
   }
 
+  -- the run stops at a line that ended
   pub fed_stops : (a piece rest b part after : List ℕ) (u v w : Option (List ℕ)) (status : Status) → Fed A a piece rest b u v
       → rest ≡ part ++ 10 ∷ after → IsOneLine part → StoppedAt A (b ++ part) v w status → StoppedIn A (a ++ piece) u w status
   fed_stops a piece rest b part after u v w status f cut one s =
@@ -184,6 +219,7 @@ module _ {A : List ℕ → List ℕ → Type 0} where
       let stopped = stopped_first (b ++ (part ++ 10 ∷ after)) (b ++ part) (lines_of after) v w status first s in
       subst (λ t. StoppedIn A t u w status) whole (stopped_later a f.front b (part ++ 10 ∷ after) u v w status f.feeds stopped)
 
+  -- after the last line that ended
   pub fed_open : {T : Type 0} (a piece rest b c : List ℕ) (u v : Option (List ℕ)) (result : Result T Status)
       → Fed A a piece rest b u v → Extends b c rest result → IsOneLine rest → OnOk result (IsOpenLine c)
   fed_open a piece rest b c u v (Ok x) f step one = still_open b c rest (Ok x) x refl step f.is_open one
@@ -194,6 +230,7 @@ module _ {A : List ℕ → List ℕ → Type 0} where
   fed_whole a piece rest b c u v (Ok x) f step = rw f.parts (feeds_both a f.front b rest c u v v f.feeds (feeds_part b rest c v step.added))
   fed_whole a piece rest b c u v (Err status) f step = tt
 
+  -- the run stops at the line that has no end
   pub fed_stops_whole : {T : Type 0} (a piece rest b c : List ℕ) (u v : Option (List ℕ)) (result : Result T Status)
       → Fed A a piece rest b u v → Extends b c rest result → IsOneLine rest → IfErr result (StoppedIn A (a ++ piece) u v)
   fed_stops_whole a piece rest b c u v (Ok x) f step one = tt

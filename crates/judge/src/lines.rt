@@ -1,6 +1,6 @@
 //! Pieces of the input, cut into lines, each answered into the sink.
-ghost use Rattle.std.specs.Prelude.{◌≡◌, ◌≤◌, ◌++◌, [], IsErrOf, OnOk, IfErr};
-ghost use Rattle.judge.specs.Faults.{Rose};
+ghost use Rattle.std.specs.Prelude.{◌≡◌, ◌≤◌, ◌++◌, [], IsErrOf, IsTrue, OnOk, IfErr};
+ghost use Rattle.judge.specs.Faults.{Rose, SinkCountsEach, StepCountsOnce};
 ghost use Rattle.judge.specs.Feeding.{Answered, AnswersRest, Extends, Feeds, IsOpenLine, Puts, StoppedAt, StoppedIn, WriteCause};
 ghost use Rattle.judge.specs.Lines.{IsOneLine};
 
@@ -29,6 +29,9 @@ pub(crate) fn feed<C: Command, K: Sink>(
     ensures stops { IfErr result (StoppedIn (C.is_answer command.now) (line.old.items ++ piece.now)
         (K.written sink.old) (K.written sink.new)) }
     ensures cause { WriteCause (K.faults sink.old) (K.faults sink.new) result }
+    ensures once { IsTrue K.counts_each
+        → StepCountsOnce Status.WriteFault (K.faults sink.old) (K.faults sink.new) result }
+    ensures last { IsErrOf result Status.WriteFault → K.last_failed sink.new }
 {
     let mut rest = piece;
     while let Some((part, after)) = cut_at(LINE_END, rest) {
@@ -51,6 +54,9 @@ pub(crate) fn finish<C: Command, K: Sink>(
     ensures stops { IfErr result (StoppedIn (C.is_answer command.now) line.now
         (K.written sink.old) (K.written sink.new)) }
     ensures cause { WriteCause (K.faults sink.old) (K.faults sink.new) result }
+    ensures once { IsTrue K.counts_each
+        → StepCountsOnce Status.WriteFault (K.faults sink.old) (K.faults sink.new) result }
+    ensures last { IsErrOf result Status.WriteFault → K.last_failed sink.new }
 {
     if line.is_empty() {
         return Ok(());
@@ -74,6 +80,9 @@ fn end_line<C: Command, K: Sink>(
     ensures stops { IfErr result (StoppedAt (C.is_answer command.now) (line.old.items ++ part.now)
         (K.written sink.old) (K.written sink.new)) }
     ensures cause { WriteCause (K.faults sink.old) (K.faults sink.new) result }
+    ensures once { IsTrue K.counts_each
+        → StepCountsOnce Status.WriteFault (K.faults sink.old) (K.faults sink.new) result }
+    ensures last { IsErrOf result Status.WriteFault → K.last_failed sink.new }
 {
     if line.is_empty() && part.len() <= MAX_LINE {
         return answer_line(command, alloc, part, sink);
@@ -109,6 +118,9 @@ fn answer_line<C: Command, K: Sink>(
     ensures stops { IfErr result (StoppedAt (C.is_answer command.now) line.now
         (K.written sink.old) (K.written sink.new)) }
     ensures cause { WriteCause (K.faults sink.old) (K.faults sink.new) result }
+    ensures once { IsTrue K.counts_each
+        → StepCountsOnce Status.WriteFault (K.faults sink.old) (K.faults sink.new) result }
+    ensures last { IsErrOf result Status.WriteFault → K.last_failed sink.new }
 {
     let Ok(text) = command.answer(alloc, line) else {
         return Err(Status::OutOfMemory);
@@ -125,6 +137,8 @@ fn put_all<K: Sink>(sink: &mut K, piece: &[u8]) -> Result<(), SinkError>
     ensures puts { Puts (K.written sink.old) (K.written sink.new) piece.now result }
     ensures later { K.faults sink.old ≤ K.faults sink.new }
     ensures failed { IsErrOf result SinkError.Failed → Rose (K.faults sink.old) (K.faults sink.new) }
+    ensures each { IsTrue K.counts_each → SinkCountsEach (K.faults sink.old) (K.faults sink.new) result }
+    ensures last { IsErrOf result SinkError.Failed → K.last_failed sink.new }
 {
     let mut rest = piece;
     while !rest.is_empty() {

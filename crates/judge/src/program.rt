@@ -1,7 +1,7 @@
 //! The program's run.
 ghost use Rattle.std.specs.Prelude.{◌≡◌, ◌≢◌, ◌⊎◌, ◌↔◌, ◌<◌, ◌^◌, ℕ, List, Some, length, map, string_bytes, IsTrue};
 ghost use Rattle.judge.specs.Answers.{LineAnswer};
-ghost use Rattle.judge.specs.Faults.{Rose};
+ghost use Rattle.judge.specs.Faults.{CountsOnce, Rose};
 ghost use Rattle.judge.specs.Lines.{AreShort, lines_of};
 ghost use Rattle.judge.specs.Ran.{Ran};
 ghost use Rattle.judge.specs.Words.{IsCheck};
@@ -31,6 +31,14 @@ pub fn run<S: Source, K: Sink>(
         (S.left source.old) (S.left source.new) (K.written sink.old) (K.written sink.new) result }
     ensures read_fault { result ≡ Status.ReadFault → Rose (S.faults source.old) (S.faults source.new) }
     ensures write_fault { result ≡ Status.WriteFault → Rose (K.faults sink.old) (K.faults sink.new) }
+
+    // A stream that failed is not asked again: one that counts its failures has one at most, and the last call was that.
+    ensures reads_once { IsTrue S.counts_each
+        → CountsOnce Status.ReadFault (S.faults source.old) (S.faults source.new) result }
+    ensures writes_once { IsTrue K.counts_each
+        → CountsOnce Status.WriteFault (K.faults sink.old) (K.faults sink.new) result }
+    ensures last_read { result ≡ Status.ReadFault → S.last_failed source.new }
+    ensures last_write { result ≡ Status.WriteFault → K.last_failed sink.new }
 
     // With good words, streams that don't fail and an input within the limits, it is done.
     ensures complete { (input : List ℕ) → S.left source.old ≡ Some input
@@ -71,6 +79,12 @@ fn answer_lines<C: Command, S: Source, K: Sink>(
     ensures good_words { result ≢ Status.BadWords }
     ensures read_fault { result ≡ Status.ReadFault → Rose (S.faults source.old) (S.faults source.new) }
     ensures write_fault { result ≡ Status.WriteFault → Rose (K.faults sink.old) (K.faults sink.new) }
+    ensures reads_once { IsTrue S.counts_each
+        → CountsOnce Status.ReadFault (S.faults source.old) (S.faults source.new) result }
+    ensures writes_once { IsTrue K.counts_each
+        → CountsOnce Status.WriteFault (K.faults sink.old) (K.faults sink.new) result }
+    ensures last_read { result ≡ Status.ReadFault → S.last_failed source.new }
+    ensures last_write { result ≡ Status.WriteFault → K.last_failed sink.new }
 {
     let mut buffer = [0u8; 4096];
     let mut line = Vec::new(alloc);

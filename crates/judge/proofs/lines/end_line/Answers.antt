@@ -10,7 +10,8 @@ answer_line-requires g c = record { one = c.requires.one; short = c.if-part-le-M
 
 pub answer_line-requires-2 : goal.answer_line-requires-2
 answer_line-requires-2 g c =
-    rw c.deref.ensures.value (still_open _ _ _ c.extend_line.result _ c.in_ok-extend_line.was c.extend_line.ensures c.requires.«open» c.requires.one)
+    let is_open = still_open _ _ _ c.extend_line.result _ c.in_ok-extend_line.was c.extend_line.ensures c.requires.«open» c.requires.one in
+    rw c.deref.ensures.value is_open
 
 pub returns-in_err-extend_line-clause-stops : goal.returns-in_err-extend_line-clause-stops
 returns-in_err-extend_line-clause-stops g c =

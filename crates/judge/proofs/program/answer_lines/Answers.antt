@@ -1,9 +1,15 @@
-use Rattle.std.proofs.Common.{◌<◌, length, take, arith}
+use Rattle.std.proofs.Common.{◌<◌, length, take, refl, ◌∙◌, arith}
 use Rattle.judge.proofs.Runs.{going_none, going_on, ran_read_fault, ran_too_much, ran_stopped, ran_done, ran_unfinished}
 use Rattle.judge.proofs.program.answer_lines.Goals as goal
 
 pub loop-turn-init : goal.loop-turn-init
-loop-turn-init g c = record { going = going_none _ _ _ c.new-line.ensures.items; later_source = omega arith; later_sink = omega arith }
+loop-turn-init g c = record {
+  going = going_none _ _ _ c.new-line.ensures.items;
+  later_source = omega arith;
+  later_sink = omega arith;
+  kept_source = λ each. refl;
+  kept_sink = λ each. refl;
+}
 
 pub feed-requires : goal.feed-requires
 feed-requires g c = c.loop-turn.invariant.going.is_open
@@ -12,7 +18,15 @@ pub loop-turn-preserved : goal.loop-turn-preserved
 loop-turn-preserved g c =
     let bound = c.in-Ok.ensures.bound in
     let some : 0 < length (take c.in-Ok.count c.read.new.buffer) = omega arith in
-    record { going = going_on _ _ _ _ _ _ _ _ _ _ c.loop-turn.invariant.going c.in-Ok.ensures.bytes.0 some c.in_default-feed.ensures.feeds c.in_default-feed.ensures.«open»; later_source = omega arith; later_sink = omega arith }
+    let going = going_on _ _ _ _ _ _ _ _ _ _ c.loop-turn.invariant.going c.in-Ok.ensures.bytes.0 some
+    c.in_default-feed.ensures.feeds c.in_default-feed.ensures.«open» in
+    record {
+      going = going;
+      later_source = omega arith;
+      later_sink = omega arith;
+      kept_source = λ each. (c.in-Ok.ensures.each each).kept ∙ c.loop-turn.invariant.kept_source each;
+      kept_sink = λ each. (c.in_default-feed.ensures.once each).ok ∙ c.loop-turn.invariant.kept_sink each;
+    }
 
 pub returns-in_default-clause-ran : goal.returns-in_default-clause-ran
 returns-in_default-clause-ran g c = ran_read_fault _ _ _ _ _ _ _ c.loop-turn.invariant.going c.in_default.ensures.bytes

@@ -20,7 +20,8 @@ pub(crate) trait Command {
 
     /// The answer to a line, with the end of a line.
     fn answer(&self, alloc: Global, line: &[u8]) -> Result<Self::Answer, AllocError>
-        ensures { IfOk result (λ text. AnswersOne (is_answer self.now) line.now (Self.Answer.items text)) };
+        ensures { IfOk result (λ text.
+            AnswersOne (is_answer self.now) line.now (Self.Answer.items text)) };
 }
 
 // The command `check`, which judges the two slices of a line.

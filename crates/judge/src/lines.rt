@@ -24,8 +24,8 @@ pub(crate) fn feed<C: Command, K: Sink>(
 ) -> Result<(), Status>
     requires { IsOpenLine line.old.items }
     ensures open { OnOk result (IsOpenLine line.new.items) }
-    ensures feeds { OnOk result (Feeds (C.is_answer command.now) line.old.items piece.now line.new.items
-        (K.written sink.old) (K.written sink.new)) }
+    ensures feeds { OnOk result (Feeds (C.is_answer command.now)
+        line.old.items piece.now line.new.items (K.written sink.old) (K.written sink.new)) }
     ensures stops { IfErr result (StoppedIn (C.is_answer command.now) (line.old.items ++ piece.now)
         (K.written sink.old) (K.written sink.new)) }
     ensures cause { WriteCause (K.faults sink.old) (K.faults sink.new) result }
@@ -64,7 +64,8 @@ pub(crate) fn finish<C: Command, K: Sink>(
     answer_line(command, alloc, line, sink)
 }
 
-// Answers the line that ends with this part, and empties it. A line that lies whole in the part isn't copied.
+// Answers the line that ends with this part, and empties it. A line that lies whole in the part
+// isn't copied.
 fn end_line<C: Command, K: Sink>(
     command: &C,
     alloc: Global,
@@ -136,8 +137,10 @@ fn answer_line<C: Command, K: Sink>(
 fn put_all<K: Sink>(sink: &mut K, piece: &[u8]) -> Result<(), SinkError>
     ensures puts { Puts (K.written sink.old) (K.written sink.new) piece.now result }
     ensures later { K.faults sink.old ≤ K.faults sink.new }
-    ensures failed { IsErrOf result SinkError.Failed → Rose (K.faults sink.old) (K.faults sink.new) }
-    ensures each { IsTrue K.counts_each → SinkCountsEach (K.faults sink.old) (K.faults sink.new) result }
+    ensures failed { IsErrOf result SinkError.Failed
+        → Rose (K.faults sink.old) (K.faults sink.new) }
+    ensures each { IsTrue K.counts_each
+        → SinkCountsEach (K.faults sink.old) (K.faults sink.new) result }
     ensures last { IsErrOf result SinkError.Failed → K.last_failed sink.new }
 {
     let mut rest = piece;

@@ -71,7 +71,8 @@ impl Source for MemorySource {
 
     fn read(&mut self, buffer: &mut [u8]) -> Result<usize, Failed>
         ensures bound { ReadsAtMost result buffer.new }
-        ensures bytes { ReadConsumes (Some (source_left self.old)) (Some (source_left self.new)) result buffer.new }
+        ensures bytes { ReadConsumes (Some (source_left self.old)) (Some (source_left self.new))
+            result buffer.new }
         ensures cause { HasCause (source_faults self.old) (source_faults self.new) result }
 
         // It fails at the listed calls alone, counts each, and else gives as much as the buffer takes.
@@ -80,7 +81,8 @@ impl Source for MemorySource {
         ensures calls { source_calls self.new ≡ min (source_calls self.old + 1) (2 ^ 64 - 1) }
         ensures fails { IsErr result ↔ Contains (source_fails self.old) (source_calls self.new) }
         ensures same_fails { source_fails self.new ≡ source_fails self.old }
-        ensures full { IfOk result (λ count. count ≡ min (length (source_left self.old)) (length buffer.old)) }
+        ensures full { IfOk result (λ count.
+            count ≡ min (length (source_left self.old)) (length buffer.old)) }
     {
         self.calls = self.calls.saturating_add(1);
         if self.fails.contains(&self.calls) {
@@ -133,14 +135,17 @@ impl Sink for MemorySink {
     fn write(&mut self, piece: &[u8]) -> Result<usize, SinkError>
         ensures bound { WritesAtMost result piece.now }
         ensures some { IfOk result (λ count. 0 < length piece.now → 0 < count) }
-        ensures bytes { WriteAppends (Some (sink_written self.old)) (Some (sink_written self.new)) result piece.now }
+        ensures bytes { WriteAppends (Some (sink_written self.old)) (Some (sink_written self.new))
+            result piece.now }
         ensures cause { SinkHasCause (sink_faults self.old) (sink_faults self.new) result }
 
         // It fails at the listed calls alone, counts each, and else takes the piece whole, or finds no memory.
         ensures each { SinkCountsEach (sink_faults self.old) (sink_faults self.new) result }
-        ensures last { IsErrOf result SinkError.Failed → Contains (sink_fails self.new) (sink_calls self.new) }
+        ensures last { IsErrOf result SinkError.Failed
+            → Contains (sink_fails self.new) (sink_calls self.new) }
         ensures calls { sink_calls self.new ≡ min (sink_calls self.old + 1) (2 ^ 64 - 1) }
-        ensures fails { (result ≡ Err SinkError.Failed) ↔ Contains (sink_fails self.old) (sink_calls self.new) }
+        ensures fails { (result ≡ Err SinkError.Failed)
+            ↔ Contains (sink_fails self.old) (sink_calls self.new) }
         ensures same_fails { sink_fails self.new ≡ sink_fails self.old }
         ensures whole { IfOk result (λ count. count ≡ length piece.now) }
     {

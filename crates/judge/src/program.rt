@@ -17,7 +17,8 @@ const MAX_TURNS: u64 = 1 << 48;
 /// Answers each line that the source has left, where the words are none, or the one word `check`.
 ///
 /// It reads 4,096 bytes at a time, answers each line that ended before it reads again, and hands each answer with the
-/// end of a line to the sink in one piece, and then what the sink left of it. It keeps one line in memory.
+/// end of a line to the sink in one piece, and then what the sink left of it. It keeps one line in memory. Where it stops
+/// at a line, the lines before that one are answered.
 pub fn run<S: Source, K: Sink>(
     alloc: Global,
     words: &[String],
@@ -25,14 +26,18 @@ pub fn run<S: Source, K: Sink>(
     sink: &mut K,
 ) -> Status
     ensures bad_words { (result ≡ Status.BadWords) ↔ (¬ IsCheck (map string_bytes words.now)) }
-    ensures untouched { result ≡ Status.BadWords → (source.new ≡ source.old) × (sink.new ≡ sink.old) }
+    ensures untouched { result ≡ Status.BadWords
+        → (source.new ≡ source.old) × (sink.new ≡ sink.old) }
     ensures check { IsCheck (map string_bytes words.now)
-        → Ran LineAnswer
-        (S.left source.old) (S.left source.new) (K.written sink.old) (K.written sink.new) result }
-    ensures read_fault { result ≡ Status.ReadFault → Rose (S.faults source.old) (S.faults source.new) }
-    ensures write_fault { result ≡ Status.WriteFault → Rose (K.faults sink.old) (K.faults sink.new) }
+        → Ran LineAnswer (S.left source.old) (S.left source.new)
+        (K.written sink.old) (K.written sink.new) result }
+    ensures read_fault { result ≡ Status.ReadFault
+        → Rose (S.faults source.old) (S.faults source.new) }
+    ensures write_fault { result ≡ Status.WriteFault
+        → Rose (K.faults sink.old) (K.faults sink.new) }
 
-    // A stream that failed is not asked again: one that counts its failures has one at most, and the last call was that.
+    // A stream that failed is not asked again: one that counts its failures has one more at its fault and none more at
+    // each other status, and its last call was the one that failed.
     ensures reads_once { IsTrue S.counts_each
         → CountsOnce Status.ReadFault (S.faults source.old) (S.faults source.new) result }
     ensures writes_once { IsTrue K.counts_each
@@ -77,8 +82,10 @@ fn answer_lines<C: Command, S: Source, K: Sink>(
     ensures ran { Ran (C.is_answer command.now)
         (S.left source.old) (S.left source.new) (K.written sink.old) (K.written sink.new) result }
     ensures good_words { result ≢ Status.BadWords }
-    ensures read_fault { result ≡ Status.ReadFault → Rose (S.faults source.old) (S.faults source.new) }
-    ensures write_fault { result ≡ Status.WriteFault → Rose (K.faults sink.old) (K.faults sink.new) }
+    ensures read_fault { result ≡ Status.ReadFault
+        → Rose (S.faults source.old) (S.faults source.new) }
+    ensures write_fault { result ≡ Status.WriteFault
+        → Rose (K.faults sink.old) (K.faults sink.new) }
     ensures reads_once { IsTrue S.counts_each
         → CountsOnce Status.ReadFault (S.faults source.old) (S.faults source.new) result }
     ensures writes_once { IsTrue K.counts_each

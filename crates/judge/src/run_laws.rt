@@ -9,7 +9,8 @@ ghost use Rattle.judge.specs.declared.status.Status.{Status};
 
 /// Each right answer of two slices has a printed name: want of memory is right of none.
 pub fn right_answers_have_names()
-    ensures { (keywords document : List ℕ) → (r : Answer) → Right keywords document r → IsSome (name_of r) }
+    ensures { (keywords document : List ℕ) → (r : Answer)
+        → Right keywords document r → IsSome (name_of r) }
 {}
 
 /// Each line has one answer.

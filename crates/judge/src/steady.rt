@@ -41,7 +41,8 @@ impl Source for SteadySource {
 
     fn read(&mut self, buffer: &mut [u8]) -> Result<usize, Failed>
         ensures bound { ReadsAtMost result buffer.new }
-        ensures bytes { ReadConsumes (Some (steady_left self.old)) (Some (steady_left self.new)) result buffer.new }
+        ensures bytes { ReadConsumes (Some (steady_left self.old)) (Some (steady_left self.new))
+            result buffer.new }
         ensures cause { HasCause 0 0 result }
         ensures each { CountsEach 0 0 result }
         ensures full { result ≡ Ok (min (length (steady_left self.old)) (length buffer.old)) }

@@ -43,7 +43,8 @@ pub trait Source {
         ensures bound { ReadsAtMost result buffer.new }
         ensures bytes { ReadConsumes (left self.old) (left self.new) result buffer.new }
         ensures cause { HasCause (faults self.old) (faults self.new) result }
-        ensures each { IsTrue counts_each → CountsEach (faults self.old) (faults self.new) result }
+        ensures each { IsTrue counts_each
+            → CountsEach (faults self.old) (faults self.new) result }
         ensures last { OnErr result (last_failed self.new) };
 }
 
@@ -68,6 +69,7 @@ pub trait Sink {
         ensures some { IfOk result (λ count. 0 < length piece.now → 0 < count) }
         ensures bytes { WriteAppends (written self.old) (written self.new) result piece.now }
         ensures cause { SinkHasCause (faults self.old) (faults self.new) result }
-        ensures each { IsTrue counts_each → SinkCountsEach (faults self.old) (faults self.new) result }
+        ensures each { IsTrue counts_each
+            → SinkCountsEach (faults self.old) (faults self.new) result }
         ensures last { IsErrOf result SinkError.Failed → last_failed self.new };
 }

@@ -1,5 +1,5 @@
 -- Hex texts are what `hex` decodes.
-use Rattle.std.proofs.Common.{◌≡◌, ◌⊎◌, inl, inr, ℕ, zero, suc, ◌+◌, ◌*◌, ◌/◌, ◌%◌, ◌<◌, List, [], ◌∷◌, length, take, slice_index, true, false, is_some, Option, Some, None, Ok, Err, refl, sym, ap, ◌∙◌, subst, arith}
+use Rattle.std.proofs.Common.{◌≡◌, ◌⊎◌, inl, inr, ℕ, zero, suc, ◌+◌, ◌*◌, ◌/◌, ◌%◌, ◌<◌, List, [], ◌∷◌, length, take, slice_index, true, false, is_some, Option, Some, None, Ok, Err, Result, refl, sym, ap, ◌∙◌, subst, arith}
 use Rattle.std.specs.List.{AllPass}
 use Rattle.std.specs.Str.{IsAscii, IsUtf8}
 use Rattle.std.proofs.lemmas.Bool.{false≢true, cases_eq}
@@ -11,6 +11,7 @@ use Rattle.hex.specs.declared.error.FromHexError.TheVariants.{InvalidHexCharacte
 use Rattle.hex.specs.Hex.{decode_of, decode_pairs, hex_digit_value, is_hex_digit, pair_value}
 use Rattle.hex.proofs.Pairs.{cons_byte, decode_pairs-ok_pair}
 use Rattle.hex.proofs.HexLemmas.{decode_of-err, decode_of-even, decode_of-odd, decode_of-ok, decode_of-same}
+use Rattle.jsonb_layout.proofs.Tools.{IsBytes}
 use Rattle.jsonb.specs.HexText.{IsFirstNotHex, IsHexPair, IsHexText}
 
 abbrev IsDigit : ℕ → Type 0
@@ -152,3 +153,28 @@ digit_no_space c v h e = let none : hex_digit_value c ≡ None = ap hex_digit_va
 
 pub pair_no_space : (x y byte : ℕ) → IsHexPair x y byte → (x ≡ 32 → ⊥) × (y ≡ 32 → ⊥)
 pair_no_space x y byte h = (digit_no_space x (byte / 16) h.0, digit_no_space y (byte % 16) h.1)
+
+-- ---- which texts are hex texts, and of what
+
+-- a text stands for one list of bytes at most
+pub hex_once : (text x y : List ℕ) → IsHexText text x → IsHexText text y → x ≡ y
+hex_once text x y h g = let same = sym (hex_decodes text x h) ∙ hex_decodes text y g in cc
+
+-- a text stands for some bytes, or for none
+pub hex_or_none : (text : List ℕ) → ((bytes : List ℕ) × IsHexText text bytes) ⊎ ((bytes : List ℕ) → IsHexText text bytes → ⊥)
+hex_or_none text = by_result (decode_of text) refl
+  where
+    by_result : (r : Result (List ℕ) FromHexError) → decode_of text ≡ r
+        → ((bytes : List ℕ) × IsHexText text bytes) ⊎ ((bytes : List ℕ) → IsHexText text bytes → ⊥)
+    by_result (Ok bytes) e = inl (bytes, decoded_hex text bytes e)
+    by_result (Err error) e = inr (λ bytes h. let same = sym e ∙ hex_decodes text bytes h in cc)
+
+-- what a hex text stands for is bytes
+pub hex_bytes : (text bytes : List ℕ) → IsHexText text bytes → IsBytes bytes
+hex_bytes [] [] h i = omega arith
+hex_bytes [] (b ∷ bytes) h i = absurd h
+hex_bytes (x ∷ []) [] h i = absurd h
+hex_bytes (x ∷ []) (b ∷ bytes) h i = absurd h
+hex_bytes (x ∷ y ∷ text) [] h i = absurd h
+hex_bytes (x ∷ y ∷ text) (b ∷ bytes) h zero = let high = digit_small x (b / 16) h.0.0 in omega arith
+hex_bytes (x ∷ y ∷ text) (b ∷ bytes) h (suc i) = hex_bytes text bytes h.1 i

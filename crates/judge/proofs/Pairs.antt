@@ -8,7 +8,7 @@ use Rattle.jsonb.specs.HexText.{IsHexText}
 use Rattle.jsonb.proofs.HexTexts.{pair_no_space}
 use Rattle.judge.specs.declared.errors.JudgeError.{JudgeError}
 use Rattle.judge.specs.declared.errors.JudgeError.TheVariants.{OutOfMemory}
-use Rattle.judge.specs.Answers.{IsPair, LineAnswer, name_of}
+use Rattle.judge.specs.Answers.{IsJudged, IsPair, LineAnswer, name_of}
 use Rattle.judge.specs.Feeding.{AnswersOne}
 use Rattle.judge.specs.Lines.{Lacks}
 use Rattle.judge.specs.Right.{Right}
@@ -16,7 +16,7 @@ use Rattle.judge.specs.Words.{IsCheck}
 use Rattle.judge.proofs.Texts.{Lacks-cut, cut_once}
 
 -- a hex text has no space
-hex_lacks : (text bytes : List ℕ) → IsHexText text bytes → Lacks 32 text
+pub hex_lacks : (text bytes : List ℕ) → IsHexText text bytes → Lacks 32 text
 hex_lacks [] bytes h = tt
 hex_lacks (x ∷ []) [] h = absurd h
 hex_lacks (x ∷ []) (b ∷ bytes) h = absurd h
@@ -42,32 +42,42 @@ no_name : (verdict : Result Bool JudgeError) (name : List ℕ) → verdict ≡ E
 no_name verdict name memory named = let none : name_of verdict ≡ None = ap name_of memory in cc
 
 named_answer : (line k d : List ℕ) (verdict : Result Bool JudgeError) (name text : List ℕ) → IsPair line k d
-    → (verdict ≡ Err OutOfMemory) ⊎ Right k d verdict → name_of verdict ≡ Some name → text ≡ name ++ 10 ∷ [] → AnswersOne LineAnswer line text
+    → (verdict ≡ Err OutOfMemory) ⊎ Right k d verdict → name_of verdict ≡ Some name → text ≡ name ++ 10 ∷ []
+    → AnswersOne LineAnswer line text
 named_answer line k d verdict name text pair (inl memory) named is = absurd (no_name verdict name memory named)
 named_answer line k d verdict name text pair (inr right) named is =
-    record { answer = name; right = inl (record { keywords = k; document = d; verdict = verdict; pair = pair; right = right; named = named }); is = is }
+    let judged : IsJudged line name =
+    record { keywords = k; document = d; verdict = verdict; pair = pair; right = right; named = named } in
+    record { answer = name; right = inl judged; is = is }
 
 printed_name : (line k d : List ℕ) (verdict : Result Bool JudgeError) (name : Option (List ℕ)) (text : Bor (List ℕ)) → IsPair line k d
     → (verdict ≡ Err OutOfMemory) ⊎ Right k d verdict → name_of verdict ≡ name
-    → MatchOption name (IsNone (Some text)) (λ n. IsSomeAnd (Some text) (λ t. t.now ≡ n ++ 10 ∷ [])) → AnswersOne LineAnswer line text.now
+    → MatchOption name (IsNone (Some text)) (λ n. IsSomeAnd (Some text) (λ t. t.now ≡ n ++ 10 ∷ []))
+    → AnswersOne LineAnswer line text.now
 printed_name line k d verdict None text pair right named h = cc
 printed_name line k d verdict (Some name) text pair right named h = named_answer line k d verdict name text.now pair right named h
 
--- what is printed of the right answer to a pair answers the line
-printed_answer : (line k d : List ℕ) (verdict : Result Bool JudgeError) (o : Option (Bor (List ℕ))) (text : Bor (List ℕ)) → IsPair line k d
-    → (verdict ≡ Err OutOfMemory) ⊎ Right k d verdict
-    → MatchOption (name_of verdict) (IsNone o) (λ n. IsSomeAnd o (λ t. t.now ≡ n ++ 10 ∷ [])) → o ≡ Some text → AnswersOne LineAnswer line text.now
-printed_answer line k d verdict o text pair right printed e =
-    printed_name line k d verdict (name_of verdict) text pair right refl (subst (λ p. MatchOption (name_of verdict) (IsNone p) (λ n. IsSomeAnd p (λ t. t.now ≡ n ++ 10 ∷ []))) e printed)
+-- what `printed` gives of a verdict: its name and the end of a line, or nothing where it has no name
+abbrev Printed : Result Bool JudgeError → Option (Bor (List ℕ)) → Type 0
+Printed verdict o = MatchOption (name_of verdict) (IsNone o) (λ n. IsSomeAnd o (λ t. t.now ≡ n ++ 10 ∷ []))
 
-pub printed_answers : {E : Type 0} (line k d : List ℕ) (verdict : Result Bool JudgeError) (o : Option (Bor (List ℕ))) (result : Result (Bor (List ℕ)) E) → IsPair line k d
-    → (verdict ≡ Err OutOfMemory) ⊎ Right k d verdict
-    → MatchOption (name_of verdict) (IsNone o) (λ n. IsSomeAnd o (λ t. t.now ≡ n ++ 10 ∷ [])) → o ≡ result_ok result → IfOk result (λ text. AnswersOne LineAnswer line text.now)
+-- what is printed of the right answer to a pair answers the line
+printed_answer : (line k d : List ℕ) (verdict : Result Bool JudgeError) (o : Option (Bor (List ℕ))) (text : Bor (List ℕ))
+    → IsPair line k d → (verdict ≡ Err OutOfMemory) ⊎ Right k d verdict → Printed verdict o → o ≡ Some text
+    → AnswersOne LineAnswer line text.now
+printed_answer line k d verdict o text pair right printed e =
+    printed_name line k d verdict (name_of verdict) text pair right refl (subst (λ p. Printed verdict p) e printed)
+
+-- the same of the result that the command gives
+pub printed_answers : {E : Type 0} (line k d : List ℕ) (verdict : Result Bool JudgeError) (o : Option (Bor (List ℕ)))
+    (result : Result (Bor (List ℕ)) E) → IsPair line k d → (verdict ≡ Err OutOfMemory) ⊎ Right k d verdict → Printed verdict o
+    → o ≡ result_ok result → IfOk result (λ text. AnswersOne LineAnswer line text.now)
 printed_answers line k d verdict o (Ok text) pair right printed e = printed_answer line k d verdict o text pair right printed e
 printed_answers line k d verdict o (Err error) pair right printed e = tt
 
 -- ---- words
 
+-- a list of one item
 pub one_item : {X : Type 0} (items : List X) (x : X) → 1 ≤ length items → length items < 2 → x ≡ get_or items 0 x → items ≡ x ∷ []
 one_item [] x at_least below e = absurd (omega arith)
 one_item (y ∷ []) x at_least below e = ap (λ v. v ∷ []) (sym e)
@@ -76,6 +86,7 @@ one_item (y ∷ z ∷ items) x at_least below e = absurd (omega arith)
 first_item : (a b : List ℕ) → a ∷ [] ≡ b ∷ [] → a ≡ b
 first_item a b e = cc
 
+-- one word asks for a check exactly where it is `check`
 pub check_alone : (word : List ℕ) (equal : Bool) → equal ≡ pointwise eqb word (codes "check") → IsTrue equal ↔ IsCheck (word ∷ [])
 check_alone word true e = (λ _. inr (ap (λ v. v ∷ []) (same_text word (codes "check") e)), λ _. refl)
 check_alone word false e = (

@@ -1,17 +1,20 @@
 -- Lines and their texts.
-use Rattle.std.proofs.Common.{◌≡◌, ◌≢◌, ℕ, List, [], ◌∷◌, ◌++◌, refl, ap, ◌∙◌, append_assoc, inl, inr}
+use Rattle.std.proofs.Common.{◌≡◌, ◌≢◌, ℕ, ◌<◌, List, [], ◌∷◌, ◌++◌, length, refl, ap, ◌∙◌, append_assoc, inl, inr, arith}
 use Rattle.std.proofs.lemmas.Bool.Decides.{eqb_tells}
 use Rattle.judge.specs.Answers.{Answers}
 use Rattle.judge.specs.Lines.{AreLines, AreShort, IsOneLine, Lacks, lines_of, onto_first, text_of}
 
+-- lines, and more lines
 pub text_of-append : (ls ms : List (List ℕ)) (z : List ℕ) → text_of (ls ++ ms) z ≡ text_of ls (text_of ms z)
 text_of-append [] ms z = refl
 text_of-append (l ∷ ls) ms z = ap (λ t. l ++ 10 ∷ t) (text_of-append ls ms z)
 
+-- lines, and a text that goes on
 pub text_of-more : (ls : List (List ℕ)) (z w : List ℕ) → text_of ls z ++ w ≡ text_of ls (z ++ w)
 text_of-more [] z w = refl
 text_of-more (l ∷ ls) z w = append_assoc l (10 ∷ text_of ls z) w ∙ ap (λ t. l ++ 10 ∷ t) (text_of-more ls z w)
 
+-- lists of lines, one after the other
 pub AreLines-append : (ls ms : List (List ℕ)) → AreLines ls → AreLines ms → AreLines (ls ++ ms)
 AreLines-append [] ms h g = g
 AreLines-append (l ∷ ls) ms h g = (h.0, AreLines-append ls ms h.1 g)
@@ -41,7 +44,9 @@ cut_once c (u ∷ a) b (v ∷ x) y h g e =
     let j : a ≡ x = i.0 in
     (cc, i.1)
 
-pub Answers-append : (A : List ℕ → List ℕ → Type 0) (ls ms : List (List ℕ)) (x y : List ℕ) → Answers A ls x → Answers A ms y → Answers A (ls ++ ms) (x ++ y)
+-- answers, and more answers
+pub Answers-append : (A : List ℕ → List ℕ → Type 0) (ls ms : List (List ℕ)) (x y : List ℕ)
+    → Answers A ls x → Answers A ms y → Answers A (ls ++ ms) (x ++ y)
 Answers-append A [] ms x y h g = rw h g
 Answers-append A (l ∷ ls) ms x y h g =
     (h.0, h.1 ++ y, h.2, Answers-append A ls ms h.1 y h.3 g, ap (λ t. t ++ y) h.4 ∙ append_assoc h.0 (10 ∷ h.1) y)
@@ -51,31 +56,21 @@ other : (b : ℕ) (t : List ℕ) → (b ≢ 10) → lines_of (b ∷ t) ≡ onto_
 other b t ne = elim (eqb_tells b 10) [ inl hit ↦ absurd (ne hit.1) | inr miss ↦ rw miss.0 refl ]
 
 -- the lines of a text that begins with one whole line
-one_line : (l z : List ℕ) → IsOneLine l → lines_of (l ++ 10 ∷ z) ≡ l ∷ lines_of z
+pub one_line : (l z : List ℕ) → IsOneLine l → lines_of (l ++ 10 ∷ z) ≡ l ∷ lines_of z
 one_line [] z h = refl
 one_line (b ∷ l) z h = other b (l ++ 10 ∷ z) h.0 ∙ ap (onto_first b) (one_line l z h.1)
 
+-- the lines of a text that begins with whole lines
 pub lines_of-text : (ls : List (List ℕ)) (z : List ℕ) → AreLines ls → lines_of (text_of ls z) ≡ ls ++ lines_of z
 lines_of-text [] z h = refl
 lines_of-text (l ∷ ls) z h = one_line l (text_of ls z) h.0 ∙ ap (λ t. l ∷ t) (lines_of-text ls z h.1)
 
 -- the lines of an open line
-pub lines_of-open : (b : ℕ) (l : List ℕ) → IsOneLine (b ∷ l) → lines_of (b ∷ l) ≡ (b ∷ l) ∷ []
+lines_of-open : (b : ℕ) (l : List ℕ) → IsOneLine (b ∷ l) → lines_of (b ∷ l) ≡ (b ∷ l) ∷ []
 lines_of-open b [] h = other b [] h.0
 lines_of-open b (c ∷ l) h = other b (c ∷ l) h.0 ∙ ap (onto_first b) (lines_of-open c l h.1)
 
-pub record HasFirst (l : List ℕ) (lines : List (List ℕ)) : Type 0 where
-  pub more : List ℕ
-  pub others : List (List ℕ)
-  pub are : lines ≡ (l ++ more) ∷ others
-
-first_of_any : (b : ℕ) (ls ms : List (List ℕ)) → ms ≡ onto_first b ls → HasFirst (b ∷ []) ms
-first_of_any b [] ms e = record { more = []; others = []; are = e }
-first_of_any b (l ∷ ls) ms e = record { more = l; others = ls; are = e }
-
--- a text that begins with an open line has a first line that begins with it
-pub lines_of-begins : (b : ℕ) (l z : List ℕ) → IsOneLine (b ∷ l) → HasFirst (b ∷ l) (lines_of ((b ∷ l) ++ z))
-lines_of-begins b [] z h = first_of_any b (lines_of z) (lines_of (b ∷ z)) (other b z h.0)
-lines_of-begins b (c ∷ l) z h =
-    let i = lines_of-begins c l z h.1 in
-    record { more = i.more; others = i.others; are = other b ((c ∷ l) ++ z) h.0 ∙ ap (onto_first b) i.are }
+-- a line with no end is the one line of its text, if it isn't empty
+pub lines_of-alone : (l : List ℕ) → IsOneLine l → 0 < length l → lines_of l ≡ l ∷ []
+lines_of-alone [] h some = absurd (omega arith)
+lines_of-alone (b ∷ l) h some = lines_of-open b l h

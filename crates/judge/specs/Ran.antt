@@ -1,20 +1,16 @@
 -- What a run took from its source and wrote to its sink. This project's own.
-use Rattle.std.specs.Prelude.{◌≡◌, ℕ, ◌^◌, ◌<◌, ◌≤◌, List, ◌∷◌, ◌++◌, length}
+use Rattle.std.specs.Prelude.{◌≡◌, ◌⊎◌, ℕ, ◌^◌, ◌<◌, ◌≤◌, List, [], ◌∷◌, ◌++◌, length}
 use Rattle.std.specs.declared.option.Option.{Option}
 use Rattle.std.specs.Io.KnownBytes.{Appends, Consumes, IsAtEnd}
 use Rattle.judge.specs.Answers.{Answers}
 use Rattle.judge.specs.Lines.{AreLines, AreShort, IsOneLine, lines_of, text_of}
 use Rattle.judge.specs.declared.status.Status.{Status}
-use Rattle.judge.specs.declared.status.Status.TheVariants.{Done, ReadFault, WriteFault, LineTooLong, InputTooLong}
+use Rattle.judge.specs.declared.status.Status.TheVariants.{Done, BadWords, ReadFault, WriteFault, LineTooLong, InputTooLong, OutOfMemory}
 
--- the text and `more` are the answers to the first of these lines, none of which is too long
-pub record BeginsAnswers (IsAnswer : List ℕ → List ℕ → Type 0) (lines : List (List ℕ)) (text : List ℕ) : Type 0 where
-  pub front : List (List ℕ)
-  pub back : List (List ℕ)
-  pub more : List ℕ
-  pub parts : lines ≡ front ++ back
-  pub short : AreShort front
-  pub answers : Answers IsAnswer front (text ++ more)
+-- the text is the answers to all the lines, none of which is too long
+pub record AnswersAll (IsAnswer : List ℕ → List ℕ → Type 0) (taken text : List ℕ) : Type 0 where
+  pub short : AreShort (lines_of taken)
+  pub answers : Answers IsAnswer (lines_of taken) text
 
 -- the text is the answers to the lines that ended, and no line is too long, that with no end included
 pub record AnswersEnded (IsAnswer : List ℕ → List ℕ → Type 0) (taken text : List ℕ) : Type 0 where
@@ -26,33 +22,55 @@ pub record AnswersEnded (IsAnswer : List ℕ → List ℕ → Type 0) (taken tex
   pub short : AreShort (lines_of taken)
   pub answers : Answers IsAnswer ended text
 
--- the text is the answers to the lines before the first that is too long
-pub record AnswersBeforeLong (IsAnswer : List ℕ → List ℕ → Type 0) (taken text : List ℕ) : Type 0 where
-  pub front : List (List ℕ)
-  pub long : List ℕ
-  pub others : List (List ℕ)
-  pub parts : lines_of taken ≡ front ++ long ∷ others
-  pub short : AreShort front
-  pub too_long : 2 ^ 24 < length long
-  pub answers : Answers IsAnswer front text
+-- the answer to the line, with the end of a line, was begun and not written whole
+pub record IsCutOff (IsAnswer : List ℕ → List ℕ → Type 0) (line begun : List ℕ) : Type 0 where
+  pub answer : List ℕ
+  pub missing : List ℕ
+  pub right : IsAnswer line answer
+  pub parts : answer ++ 10 ∷ [] ≡ begun ++ missing
+  pub some : 0 < length missing
 
--- the text is the answers to all the lines, none of which is too long
-pub record AnswersAll (IsAnswer : List ℕ → List ℕ → Type 0) (taken text : List ℕ) : Type 0 where
-  pub short : AreShort (lines_of taken)
-  pub answers : Answers IsAnswer (lines_of taken) text
+-- why a run stopped at a line, of whose answer this much was written: the line is too long; a write of its answer
+-- failed; or there was no memory for it, for its answer or in the sink
+abbrev pub StopsAt : (List ℕ → List ℕ → Type 0) → Status → List ℕ → List ℕ → Type 0
+StopsAt IsAnswer LineTooLong line begun = (2 ^ 24 < length line) × (begun ≡ [])
+StopsAt IsAnswer WriteFault line begun = (length line ≤ 2 ^ 24) × IsCutOff IsAnswer line begun
+StopsAt IsAnswer OutOfMemory line begun = (length line ≤ 2 ^ 24) × ((begun ≡ []) ⊎ IsCutOff IsAnswer line begun)
+StopsAt IsAnswer Done line begun = ⊥
+StopsAt IsAnswer BadWords line begun = ⊥
+StopsAt IsAnswer ReadFault line begun = ⊥
+StopsAt IsAnswer InputTooLong line begun = ⊥
+
+-- the text is the answers to the lines before the one at which the run stopped, and then what was written of that one's
+pub record AnswersBefore (IsAnswer : List ℕ → List ℕ → Type 0) (status : Status) (taken text : List ℕ) : Type 0 where
+  pub front : List (List ℕ)
+  pub line : List ℕ
+  pub others : List (List ℕ)
+  pub parts : lines_of taken ≡ front ++ line ∷ others
+  pub short : AreShort front
+  pub answered : List ℕ
+  pub begun : List ℕ
+  pub text_parts : text ≡ answered ++ begun
+  pub answers : Answers IsAnswer front answered
+  pub stops : StopsAt IsAnswer status line begun
+
+-- how the text that was written answers the bytes that were taken, by the run's status
+abbrev pub Agrees : (List ℕ → List ℕ → Type 0) → Status → List ℕ → List ℕ → Type 0
+Agrees IsAnswer Done taken text = AnswersAll IsAnswer taken text
+Agrees IsAnswer ReadFault taken text = AnswersEnded IsAnswer taken text
+Agrees IsAnswer InputTooLong taken text = (2 ^ 48 ≤ length taken) × AnswersEnded IsAnswer taken text
+Agrees IsAnswer WriteFault taken text = AnswersBefore IsAnswer WriteFault taken text
+Agrees IsAnswer LineTooLong taken text = AnswersBefore IsAnswer LineTooLong taken text
+Agrees IsAnswer OutOfMemory taken text = AnswersBefore IsAnswer OutOfMemory taken text
+Agrees IsAnswer BadWords taken text = ⊥
 
 -- what the run took from its source, what it wrote to its sink, and how the two agree with its status; the four lists
--- are the bytes left and the bytes written, before and after, where source and sink tell them; at `WriteFault` some byte
--- of the answers that were begun is missing
+-- are the bytes left and the bytes written, before and after, where source and sink tell them
 pub record Ran (IsAnswer : List ℕ → List ℕ → Type 0)
     (left_before left_now written_before written_now : Option (List ℕ)) (status : Status) : Type 0 where
   pub taken : List ℕ
   pub text : List ℕ
   pub takes : Consumes left_before left_now taken
   pub writes : Appends written_before written_now text
-  pub begins : BeginsAnswers IsAnswer (lines_of taken) text
-  pub done : status ≡ Done → IsAtEnd left_now × AnswersAll IsAnswer taken text
-  pub read_fault : status ≡ ReadFault → AnswersEnded IsAnswer taken text
-  pub write_fault : status ≡ WriteFault → 0 < length begins.more
-  pub line_too_long : status ≡ LineTooLong → AnswersBeforeLong IsAnswer taken text
-  pub input_too_long : status ≡ InputTooLong → (2 ^ 48 ≤ length taken) × AnswersEnded IsAnswer taken text
+  pub at_end : status ≡ Done → IsAtEnd left_now
+  pub agrees : Agrees IsAnswer status taken text

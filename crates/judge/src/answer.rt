@@ -7,14 +7,11 @@ ghost use Rattle.judge.specs.Feeding.{AnswersOne};
 use crate::cut::cut_at;
 use crate::{Fault, JudgeError, judge};
 use jsonb::encode::{HexError, decode_hex};
-use std::alloc::Global;
+use std::alloc::{AllocError, Global};
 use std::convert::AsSlice;
 
-#[derive(Drop)]
-pub(crate) struct NoMemory;
-
-// What answers the lines of a command.
-pub(crate) trait LineTask {
+// A command of the program, which answers the input line by line.
+pub(crate) trait Command {
     /// Which texts answer a line.
     ghost is_answer: { Self → List ℕ → List ℕ → Type 0 };
 
@@ -22,28 +19,29 @@ pub(crate) trait LineTask {
     type Answer: AsSlice<u8> + Drop;
 
     /// The answer to a line, with the end of a line.
-    fn answer(&self, alloc: Global, line: &[u8]) -> Result<Self::Answer, NoMemory>
-        ensures { IfOk result (λ text. AnswersOne (is_answer self.now) line.now (Self.Answer.items text)) };
+    fn answer(&self, alloc: Global, line: &[u8]) -> Result<Self::Answer, AllocError>
+        ensures { IfOk result (λ text.
+            AnswersOne (is_answer self.now) line.now (Self.Answer.items text)) };
 }
 
-// The command `check`.
-pub(crate) struct CheckTask;
+// The command `check`, which judges the two slices of a line.
+pub(crate) struct CheckCommand;
 
-impl LineTask for CheckTask {
+impl Command for CheckCommand {
     ghost is_answer = { λ _. LineAnswer };
 
     type Answer = &'static [u8];
 
-    fn answer(&self, alloc: Global, line: &[u8]) -> Result<&'static [u8], NoMemory> {
+    fn answer(&self, alloc: Global, line: &[u8]) -> Result<&'static [u8], AllocError> {
         let Some((keywords, document)) = read_pair(alloc, line)? else {
             return Ok(b"bad line\n");
         };
-        printed(judge(alloc, &keywords, &document)).ok_or(NoMemory)
+        printed(judge(alloc, &keywords, &document)).ok_or(AllocError)
     }
 }
 
 // The bytes of the two hex texts of a line.
-fn read_pair(alloc: Global, line: &[u8]) -> Result<Option<(Vec<u8>, Vec<u8>)>, NoMemory>
+fn read_pair(alloc: Global, line: &[u8]) -> Result<Option<(Vec<u8>, Vec<u8>)>, AllocError>
     ensures { IfOk result (λ pair. MatchOption pair
         ((keywords document : List ℕ) → IsPair line.now keywords document → ⊥)
         (λ both. IsPair line.now both.0.items both.1.items)) }
@@ -61,7 +59,7 @@ fn read_pair(alloc: Global, line: &[u8]) -> Result<Option<(Vec<u8>, Vec<u8>)>, N
 }
 
 // The bytes of a hex text.
-fn read_hex(alloc: Global, text: &[u8]) -> Result<Option<Vec<u8>>, NoMemory>
+fn read_hex(alloc: Global, text: &[u8]) -> Result<Option<Vec<u8>>, AllocError>
     ensures { IfOk result (λ read. MatchOption read
         ((bytes : List ℕ) → IsHexText text.now bytes → ⊥)
         (λ bytes. IsHexText text.now bytes.items)) }
@@ -71,7 +69,7 @@ fn read_hex(alloc: Global, text: &[u8]) -> Result<Option<Vec<u8>>, NoMemory>
     };
     match decode_hex(alloc, text) {
         Ok(bytes) => Ok(Some(bytes)),
-        Err(HexError::OutOfMemory) => Err(NoMemory),
+        Err(HexError::OutOfMemory) => Err(AllocError),
         Err(HexError::OddLength | HexError::NotHex { .. }) => Ok(None),
     }
 }

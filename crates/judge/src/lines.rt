@@ -1,10 +1,10 @@
 //! Pieces of the input, cut into lines, each answered into the sink.
-ghost use Rattle.std.specs.Prelude.{◌≡◌, ◌≤◌, ◌∷◌, ◌++◌, [], IsErrOf, OnOk, IfErr};
-ghost use Rattle.judge.specs.Faults.{Rose};
-ghost use Rattle.judge.specs.Feeding.{AnswersLine, Extends, Feeds, Finishes, IsOpenLine, Puts, Stops, WriteCause};
+ghost use Rattle.std.specs.Prelude.{◌≡◌, ◌≤◌, ◌++◌, [], IsErrOf, IsTrue, OnOk, IfErr};
+ghost use Rattle.judge.specs.Faults.{Rose, SinkCountsEach, StepCountsOnce};
+ghost use Rattle.judge.specs.Feeding.{Answered, AnswersRest, Extends, Feeds, IsOpenLine, Puts, StoppedAt, StoppedIn, WriteCause};
 ghost use Rattle.judge.specs.Lines.{IsOneLine};
 
-use crate::answer::LineTask;
+use crate::answer::Command;
 use crate::cut::cut_at;
 use crate::{Sink, SinkError, Status};
 use std::alloc::Global;
@@ -15,8 +15,8 @@ const LINE_END: u8 = b'\n';
 const MAX_LINE: usize = 1 << 24;
 
 // Takes a piece of the input after an open line.
-pub(crate) fn feed<T: LineTask, K: Sink>(
-    task: &T,
+pub(crate) fn feed<C: Command, K: Sink>(
+    command: &C,
     alloc: Global,
     piece: &[u8],
     line: &mut Vec<u8>,
@@ -24,40 +24,50 @@ pub(crate) fn feed<T: LineTask, K: Sink>(
 ) -> Result<(), Status>
     requires { IsOpenLine line.old.items }
     ensures open { OnOk result (IsOpenLine line.new.items) }
-    ensures feeds { OnOk result (Feeds (T.is_answer task.now) line.old.items piece.now line.new.items
-        (K.written sink.old) (K.written sink.new)) }
-    ensures stops { IfErr result (Stops (T.is_answer task.now) (line.old.items ++ piece.now)
+    ensures feeds { OnOk result (Feeds (C.is_answer command.now)
+        line.old.items piece.now line.new.items (K.written sink.old) (K.written sink.new)) }
+    ensures stops { IfErr result (StoppedIn (C.is_answer command.now) (line.old.items ++ piece.now)
         (K.written sink.old) (K.written sink.new)) }
     ensures cause { WriteCause (K.faults sink.old) (K.faults sink.new) result }
+    ensures once { IsTrue K.counts_each
+        → StepCountsOnce Status.WriteFault (K.faults sink.old) (K.faults sink.new) result }
+    ensures last { IsErrOf result Status.WriteFault → K.last_failed sink.new }
 {
     let mut rest = piece;
     while let Some((part, after)) = cut_at(LINE_END, rest) {
-        end_line(task, alloc, part, line, sink)?;
+        end_line(command, alloc, part, line, sink)?;
         rest = after;
     }
     extend_line(line, rest)
 }
 
 // Answers what came after the last end of a line.
-pub(crate) fn finish<T: LineTask, K: Sink>(
-    task: &T,
+pub(crate) fn finish<C: Command, K: Sink>(
+    command: &C,
     alloc: Global,
     line: &[u8],
     sink: &mut K,
 ) -> Result<(), Status>
-    ensures finishes { Finishes (T.is_answer task.now) line.now
-        (K.written sink.old) (K.written sink.new) result }
+    requires { IsOpenLine line.now }
+    ensures rest { OnOk result (AnswersRest (C.is_answer command.now) line.now
+        (K.written sink.old) (K.written sink.new)) }
+    ensures stops { IfErr result (StoppedIn (C.is_answer command.now) line.now
+        (K.written sink.old) (K.written sink.new)) }
     ensures cause { WriteCause (K.faults sink.old) (K.faults sink.new) result }
+    ensures once { IsTrue K.counts_each
+        → StepCountsOnce Status.WriteFault (K.faults sink.old) (K.faults sink.new) result }
+    ensures last { IsErrOf result Status.WriteFault → K.last_failed sink.new }
 {
     if line.is_empty() {
         return Ok(());
     }
-    answer_line(task, alloc, line, sink)
+    answer_line(command, alloc, line, sink)
 }
 
-// Answers the line that ends with this part, and empties it. A line that lies whole in the part isn't copied.
-fn end_line<T: LineTask, K: Sink>(
-    task: &T,
+// Answers the line that ends with this part, and empties it. A line that lies whole in the part
+// isn't copied.
+fn end_line<C: Command, K: Sink>(
+    command: &C,
     alloc: Global,
     part: &[u8],
     line: &mut Vec<u8>,
@@ -66,17 +76,20 @@ fn end_line<T: LineTask, K: Sink>(
     requires open { IsOpenLine line.old.items }
     requires one { IsOneLine part.now }
     ensures emptied { OnOk result (line.new.items ≡ []) }
-    ensures feeds { OnOk result (Feeds (T.is_answer task.now) line.old.items (part.now ++ 10 ∷ []) []
+    ensures answered { OnOk result (Answered (C.is_answer command.now) (line.old.items ++ part.now)
         (K.written sink.old) (K.written sink.new)) }
-    ensures stops { IfErr result (Stops (T.is_answer task.now) (line.old.items ++ (part.now ++ 10 ∷ []))
+    ensures stops { IfErr result (StoppedAt (C.is_answer command.now) (line.old.items ++ part.now)
         (K.written sink.old) (K.written sink.new)) }
     ensures cause { WriteCause (K.faults sink.old) (K.faults sink.new) result }
+    ensures once { IsTrue K.counts_each
+        → StepCountsOnce Status.WriteFault (K.faults sink.old) (K.faults sink.new) result }
+    ensures last { IsErrOf result Status.WriteFault → K.last_failed sink.new }
 {
     if line.is_empty() && part.len() <= MAX_LINE {
-        return answer_line(task, alloc, part, sink);
+        return answer_line(command, alloc, part, sink);
     }
     extend_line(line, part)?;
-    answer_line(task, alloc, line, sink)?;
+    answer_line(command, alloc, line, sink)?;
     line.clear();
     Ok(())
 }
@@ -94,17 +107,23 @@ fn extend_line(line: &mut Vec<u8>, part: &[u8]) -> Result<(), Status>
 }
 
 // Answers a line, and writes the answer.
-fn answer_line<T: LineTask, K: Sink>(
-    task: &T,
+fn answer_line<C: Command, K: Sink>(
+    command: &C,
     alloc: Global,
     line: &[u8],
     sink: &mut K,
 ) -> Result<(), Status>
-    ensures answers { AnswersLine (T.is_answer task.now) line.now
-        (K.written sink.old) (K.written sink.new) result }
+    requires { IsOpenLine line.now }
+    ensures answered { OnOk result (Answered (C.is_answer command.now) line.now
+        (K.written sink.old) (K.written sink.new)) }
+    ensures stops { IfErr result (StoppedAt (C.is_answer command.now) line.now
+        (K.written sink.old) (K.written sink.new)) }
     ensures cause { WriteCause (K.faults sink.old) (K.faults sink.new) result }
+    ensures once { IsTrue K.counts_each
+        → StepCountsOnce Status.WriteFault (K.faults sink.old) (K.faults sink.new) result }
+    ensures last { IsErrOf result Status.WriteFault → K.last_failed sink.new }
 {
-    let Ok(text) = task.answer(alloc, line) else {
+    let Ok(text) = command.answer(alloc, line) else {
         return Err(Status::OutOfMemory);
     };
     match put_all(sink, text.as_slice()) {
@@ -118,7 +137,11 @@ fn answer_line<T: LineTask, K: Sink>(
 fn put_all<K: Sink>(sink: &mut K, piece: &[u8]) -> Result<(), SinkError>
     ensures puts { Puts (K.written sink.old) (K.written sink.new) piece.now result }
     ensures later { K.faults sink.old ≤ K.faults sink.new }
-    ensures failed { IsErrOf result SinkError.Failed → Rose (K.faults sink.old) (K.faults sink.new) }
+    ensures failed { IsErrOf result SinkError.Failed
+        → Rose (K.faults sink.old) (K.faults sink.new) }
+    ensures each { IsTrue K.counts_each
+        → SinkCountsEach (K.faults sink.old) (K.faults sink.new) result }
+    ensures last { IsErrOf result SinkError.Failed → K.last_failed sink.new }
 {
     let mut rest = piece;
     while !rest.is_empty() {

@@ -1,8 +1,9 @@
 //! Streams in memory, which fail at listed calls.
-ghost use Rattle.std.specs.Prelude.{Some, ◌≡◌, ◌↔◌, ◌≤◌, ◌<◌, ◌+◌, ◌-◌, ◌^◌, [], min, length, take, Contains, IfOk, OnOk, OnErr, IsErr, IsErrOf};
+ghost use Rattle.std.specs.Prelude.{Some, true, ◌≡◌, ◌↔◌, ◌≤◌, ◌<◌, ◌+◌, ◌-◌, ◌^◌, [], min, length, take, Contains};
+ghost use Rattle.std.specs.Prelude.{IfOk, OnErr, IsErr, IsErrOf};
 ghost use Rattle.std.specs.Io.{ReadsAtMost, WritesAtMost};
 ghost use Rattle.std.specs.Io.KnownBytes.{ReadConsumes, WriteAppends};
-ghost use Rattle.judge.specs.Faults.{HasCause, SinkHasCause};
+ghost use Rattle.judge.specs.Faults.{CountsEach, HasCause, SinkCountsEach, SinkHasCause};
 
 use crate::{Failed, Sink, SinkError, Source};
 use std::alloc::Global;
@@ -64,18 +65,24 @@ impl Source for MemorySource {
 
     ghost faults = { source_faults };
 
+    ghost counts_each = { true };
+
+    ghost last_failed = { λ source. Contains (source_fails source) (source_calls source) };
+
     fn read(&mut self, buffer: &mut [u8]) -> Result<usize, Failed>
         ensures bound { ReadsAtMost result buffer.new }
-        ensures bytes { ReadConsumes (Some (source_left self.old)) (Some (source_left self.new)) result buffer.new }
+        ensures bytes { ReadConsumes (Some (source_left self.old)) (Some (source_left self.new))
+            result buffer.new }
         ensures cause { HasCause (source_faults self.old) (source_faults self.new) result }
 
         // It fails at the listed calls alone, counts each, and else gives as much as the buffer takes.
-        ensures counted { OnErr result (source_faults self.new ≡ min (source_faults self.old + 1) (2 ^ 64 - 1)) }
-        ensures kept { OnOk result (source_faults self.new ≡ source_faults self.old) }
+        ensures each { CountsEach (source_faults self.old) (source_faults self.new) result }
+        ensures last { OnErr result (Contains (source_fails self.new) (source_calls self.new)) }
         ensures calls { source_calls self.new ≡ min (source_calls self.old + 1) (2 ^ 64 - 1) }
         ensures fails { IsErr result ↔ Contains (source_fails self.old) (source_calls self.new) }
         ensures same_fails { source_fails self.new ≡ source_fails self.old }
-        ensures full { IfOk result (λ count. count ≡ min (length (source_left self.old)) (length buffer.old)) }
+        ensures full { IfOk result (λ count.
+            count ≡ min (length (source_left self.old)) (length buffer.old)) }
     {
         self.calls = self.calls.saturating_add(1);
         if self.fails.contains(&self.calls) {
@@ -121,17 +128,24 @@ impl Sink for MemorySink {
 
     ghost faults = { sink_faults };
 
+    ghost counts_each = { true };
+
+    ghost last_failed = { λ sink. Contains (sink_fails sink) (sink_calls sink) };
+
     fn write(&mut self, piece: &[u8]) -> Result<usize, SinkError>
         ensures bound { WritesAtMost result piece.now }
         ensures some { IfOk result (λ count. 0 < length piece.now → 0 < count) }
-        ensures bytes { WriteAppends (Some (sink_written self.old)) (Some (sink_written self.new)) result piece.now }
+        ensures bytes { WriteAppends (Some (sink_written self.old)) (Some (sink_written self.new))
+            result piece.now }
         ensures cause { SinkHasCause (sink_faults self.old) (sink_faults self.new) result }
 
         // It fails at the listed calls alone, counts each, and else takes the piece whole, or finds no memory.
-        ensures counted { IsErrOf result SinkError.Failed → sink_faults self.new ≡ min (sink_faults self.old + 1) (2 ^ 64 - 1) }
-        ensures kept { OnOk result (sink_faults self.new ≡ sink_faults self.old) }
+        ensures each { SinkCountsEach (sink_faults self.old) (sink_faults self.new) result }
+        ensures last { IsErrOf result SinkError.Failed
+            → Contains (sink_fails self.new) (sink_calls self.new) }
         ensures calls { sink_calls self.new ≡ min (sink_calls self.old + 1) (2 ^ 64 - 1) }
-        ensures fails { (result ≡ Err SinkError.Failed) ↔ Contains (sink_fails self.old) (sink_calls self.new) }
+        ensures fails { (result ≡ Err SinkError.Failed)
+            ↔ Contains (sink_fails self.old) (sink_calls self.new) }
         ensures same_fails { sink_fails self.new ≡ sink_fails self.old }
         ensures whole { IfOk result (λ count. count ≡ length piece.now) }
     {

@@ -1,12 +1,12 @@
 //! The program's run.
 ghost use Rattle.std.specs.Prelude.{◌≡◌, ◌≢◌, ◌⊎◌, ◌↔◌, ◌<◌, ◌^◌, ℕ, List, Some, length, map, string_bytes, IsTrue};
 ghost use Rattle.judge.specs.Answers.{LineAnswer};
-ghost use Rattle.judge.specs.Faults.{Rose};
+ghost use Rattle.judge.specs.Faults.{CountsOnce, Rose};
 ghost use Rattle.judge.specs.Lines.{AreShort, lines_of};
 ghost use Rattle.judge.specs.Ran.{Ran};
 ghost use Rattle.judge.specs.Words.{IsCheck};
 
-use crate::answer::{CheckTask, LineTask};
+use crate::answer::{CheckCommand, Command};
 use crate::lines::{feed, finish};
 use crate::{Sink, Source, Status};
 use std::alloc::Global;
@@ -17,7 +17,8 @@ const MAX_TURNS: u64 = 1 << 48;
 /// Answers each line that the source has left, where the words are none, or the one word `check`.
 ///
 /// It reads 4,096 bytes at a time, answers each line that ended before it reads again, and hands each answer with the
-/// end of a line to the sink in one piece, and then what the sink left of it. It keeps one line in memory.
+/// end of a line to the sink in one piece, and then what the sink left of it. It keeps one line in memory. Where it stops
+/// at a line, the lines before that one are answered.
 pub fn run<S: Source, K: Sink>(
     alloc: Global,
     words: &[String],
@@ -25,12 +26,24 @@ pub fn run<S: Source, K: Sink>(
     sink: &mut K,
 ) -> Status
     ensures bad_words { (result ≡ Status.BadWords) ↔ (¬ IsCheck (map string_bytes words.now)) }
-    ensures untouched { result ≡ Status.BadWords → (source.new ≡ source.old) × (sink.new ≡ sink.old) }
+    ensures untouched { result ≡ Status.BadWords
+        → (source.new ≡ source.old) × (sink.new ≡ sink.old) }
     ensures check { IsCheck (map string_bytes words.now)
-        → Ran LineAnswer
-        (S.left source.old) (S.left source.new) (K.written sink.old) (K.written sink.new) result }
-    ensures read_fault { result ≡ Status.ReadFault → Rose (S.faults source.old) (S.faults source.new) }
-    ensures write_fault { result ≡ Status.WriteFault → Rose (K.faults sink.old) (K.faults sink.new) }
+        → Ran LineAnswer (S.left source.old) (S.left source.new)
+        (K.written sink.old) (K.written sink.new) result }
+    ensures read_fault { result ≡ Status.ReadFault
+        → Rose (S.faults source.old) (S.faults source.new) }
+    ensures write_fault { result ≡ Status.WriteFault
+        → Rose (K.faults sink.old) (K.faults sink.new) }
+
+    // A stream that failed is not asked again: one that counts its failures has one more at its fault and none more at
+    // each other status, and its last call was the one that failed.
+    ensures reads_once { IsTrue S.counts_each
+        → CountsOnce Status.ReadFault (S.faults source.old) (S.faults source.new) result }
+    ensures writes_once { IsTrue K.counts_each
+        → CountsOnce Status.WriteFault (K.faults sink.old) (K.faults sink.new) result }
+    ensures last_read { result ≡ Status.ReadFault → S.last_failed source.new }
+    ensures last_write { result ≡ Status.WriteFault → K.last_failed sink.new }
 
     // With good words, streams that don't fail and an input within the limits, it is done.
     ensures complete { (input : List ℕ) → S.left source.old ≡ Some input
@@ -42,7 +55,7 @@ pub fn run<S: Source, K: Sink>(
         → (result ≡ Status.Done) ⊎ (result ≡ Status.OutOfMemory) }
 {
     if asks_for_check(words) {
-        answer_lines(&CheckTask, alloc, source, sink)
+        answer_lines(&CheckCommand, alloc, source, sink)
     } else {
         Status::BadWords
     }
@@ -60,17 +73,25 @@ fn asks_for_check(words: &[String]) -> bool
 }
 
 // Answers each line that the source has left.
-fn answer_lines<T: LineTask, S: Source, K: Sink>(
-    task: &T,
+fn answer_lines<C: Command, S: Source, K: Sink>(
+    command: &C,
     alloc: Global,
     source: &mut S,
     sink: &mut K,
 ) -> Status
-    ensures ran { Ran (T.is_answer task.now)
+    ensures ran { Ran (C.is_answer command.now)
         (S.left source.old) (S.left source.new) (K.written sink.old) (K.written sink.new) result }
     ensures good_words { result ≢ Status.BadWords }
-    ensures read_fault { result ≡ Status.ReadFault → Rose (S.faults source.old) (S.faults source.new) }
-    ensures write_fault { result ≡ Status.WriteFault → Rose (K.faults sink.old) (K.faults sink.new) }
+    ensures read_fault { result ≡ Status.ReadFault
+        → Rose (S.faults source.old) (S.faults source.new) }
+    ensures write_fault { result ≡ Status.WriteFault
+        → Rose (K.faults sink.old) (K.faults sink.new) }
+    ensures reads_once { IsTrue S.counts_each
+        → CountsOnce Status.ReadFault (S.faults source.old) (S.faults source.new) result }
+    ensures writes_once { IsTrue K.counts_each
+        → CountsOnce Status.WriteFault (K.faults sink.old) (K.faults sink.new) result }
+    ensures last_read { result ≡ Status.ReadFault → S.last_failed source.new }
+    ensures last_write { result ≡ Status.WriteFault → K.last_failed sink.new }
 {
     let mut buffer = [0u8; 4096];
     let mut line = Vec::new(alloc);
@@ -79,12 +100,12 @@ fn answer_lines<T: LineTask, S: Source, K: Sink>(
             return Status::ReadFault;
         };
         if count == 0 {
-            if let Err(status) = finish(task, alloc, &line, sink) {
+            if let Err(status) = finish(command, alloc, &line, sink) {
                 return status;
             }
             return Status::Done;
         }
-        if let Err(status) = feed(task, alloc, &buffer[..count], &mut line, sink) {
+        if let Err(status) = feed(command, alloc, &buffer[..count], &mut line, sink) {
             return status;
         }
     }

@@ -10,13 +10,13 @@ pub enum Status {
     BadWords,
     /// A read failed. The lines that had ended are answered.
     ReadFault,
-    /// A write failed.
+    /// A write of a line's answer failed. The lines before it are answered.
     WriteFault,
     /// A line has more than 2^24 bytes, its end not counted. The lines before it are answered.
     LineTooLong,
-    /// 2^48 bytes or more were read, and no end was met.
+    /// 2^48 bytes or more were read, and no end was met. The lines that had ended are answered.
     InputTooLong,
-    /// There is no memory for a line, for its answer or in the sink.
+    /// There is no memory for a line, for its answer or in the sink. The lines before it are answered.
     OutOfMemory,
 }
 

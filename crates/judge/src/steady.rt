@@ -1,8 +1,8 @@
 //! Streams that never fail.
-ghost use Rattle.std.specs.Prelude.{Some, None, ◌≡◌, ◌≤◌, ◌<◌, min, length, IfOk};
+ghost use Rattle.std.specs.Prelude.{Some, None, true, ◌≡◌, ◌≤◌, ◌<◌, min, length, IfOk};
 ghost use Rattle.std.specs.Io.{ReadsAtMost, WritesAtMost};
 ghost use Rattle.std.specs.Io.KnownBytes.{ReadConsumes, WriteAppends};
-ghost use Rattle.judge.specs.Faults.{HasCause, SinkHasCause};
+ghost use Rattle.judge.specs.Faults.{CountsEach, HasCause, SinkCountsEach, SinkHasCause};
 
 use crate::memory::copy_front;
 use crate::{Failed, Sink, SinkError, Source};
@@ -37,10 +37,14 @@ impl Source for SteadySource {
 
     ghost faults = { λ _. 0 };
 
+    ghost counts_each = { true };
+
     fn read(&mut self, buffer: &mut [u8]) -> Result<usize, Failed>
         ensures bound { ReadsAtMost result buffer.new }
-        ensures bytes { ReadConsumes (Some (steady_left self.old)) (Some (steady_left self.new)) result buffer.new }
+        ensures bytes { ReadConsumes (Some (steady_left self.old)) (Some (steady_left self.new))
+            result buffer.new }
         ensures cause { HasCause 0 0 result }
+        ensures each { CountsEach 0 0 result }
         ensures full { result ≡ Ok (min (length (steady_left self.old)) (length buffer.old)) }
     {
         let count = copy_front(&self.bytes[self.place..], buffer);
@@ -60,11 +64,14 @@ impl Sink for SteadySink {
 
     ghost faults = { λ _. 0 };
 
+    ghost counts_each = { true };
+
     fn write(&mut self, piece: &[u8]) -> Result<usize, SinkError>
         ensures bound { WritesAtMost result piece.now }
         ensures some { IfOk result (λ count. 0 < length piece.now → 0 < count) }
         ensures bytes { WriteAppends None None result piece.now }
         ensures cause { SinkHasCause 0 0 result }
+        ensures each { SinkCountsEach 0 0 result }
         ensures whole { result ≡ Ok (length piece.now) }
     {
         Ok(piece.len())

@@ -1,8 +1,8 @@
 //! Standard input and output as streams, which count their faults.
-ghost use Rattle.std.specs.Prelude.{None, Err, ◌≡◌, ◌≢◌, ◌≤◌, ◌<◌, length, IfOk, OnOk};
+ghost use Rattle.std.specs.Prelude.{None, Err, true, ◌≡◌, ◌≢◌, ◌≤◌, ◌<◌, length, IfOk};
 ghost use Rattle.std.specs.Io.{ReadsAtMost, WritesAtMost};
 ghost use Rattle.std.specs.Io.KnownBytes.{ReadConsumes, WriteAppends};
-ghost use Rattle.judge.specs.Faults.{HasCause, SinkHasCause, Rose};
+ghost use Rattle.judge.specs.Faults.{CountsEach, HasCause, IsOneMore, SinkCountsEach, SinkHasCause};
 
 use judge::{Failed, Sink, SinkError, Source};
 use std::io::{Read, Stdin, Stdout, Write};
@@ -34,11 +34,13 @@ impl Source for StdinSource {
 
     ghost faults = { λ source. source.faults };
 
+    ghost counts_each = { true };
+
     fn read(&mut self, buffer: &mut [u8]) -> Result<usize, Failed>
         ensures bound { ReadsAtMost result buffer.new }
         ensures bytes { ReadConsumes None None result buffer.new }
         ensures cause { HasCause self.old.faults self.new.faults result }
-        ensures kept { OnOk result (self.new.faults ≡ self.old.faults) }
+        ensures each { CountsEach self.old.faults self.new.faults result }
     {
         match self.stdin.read(buffer) {
             Ok(count) => Ok(count),
@@ -59,7 +61,7 @@ impl StdoutSink {
 
     fn count_fault(&mut self)
         ensures later { self.old.faults ≤ self.new.faults }
-        ensures rose { Rose self.old.faults self.new.faults }
+        ensures one { IsOneMore self.old.faults self.new.faults }
     {
         self.faults = self.faults.saturating_add(1);
     }
@@ -70,12 +72,14 @@ impl Sink for StdoutSink {
 
     ghost faults = { λ sink. sink.faults };
 
+    ghost counts_each = { true };
+
     fn write(&mut self, piece: &[u8]) -> Result<usize, SinkError>
         ensures bound { WritesAtMost result piece.now }
         ensures some { IfOk result (λ count. 0 < length piece.now → 0 < count) }
         ensures bytes { WriteAppends None None result piece.now }
         ensures cause { SinkHasCause self.old.faults self.new.faults result }
-        ensures kept { OnOk result (self.new.faults ≡ self.old.faults) }
+        ensures each { SinkCountsEach self.old.faults self.new.faults result }
         ensures no_memory { result ≢ Err SinkError.OutOfMemory }
     {
         let Ok(count) = self.stdout.write(piece) else {

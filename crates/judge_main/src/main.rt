@@ -4,10 +4,15 @@
 //! the system, with 7 for want of memory and else with 1, before anything is read.
 #![tactic(auto)]
 
+ghost use Rattle.std.specs.Prelude.{◌≡◌, ◌⊎◌, map, string_bytes, IfErr, IfOk};
+ghost use Rattle.std.specs.Process.{exit_status};
+ghost use Rattle.judge_main.specs.Ending.{Ends};
+
 mod adapters;
 
 use adapters::{StdinSource, StdoutSink};
-use std::alloc::AllocError;
+use judge::{Sink, Source};
+use std::alloc::{AllocError, Global};
 use std::env;
 use std::env::Env;
 use std::io::ErrorKind;
@@ -18,7 +23,9 @@ const NO_WORDS: u8 = 1;
 const NO_MEMORY: u8 = 7;
 
 // The words after the program's name, or the code to end with.
-fn words_of<R: Env + AllocGlobal>(rt: &R) -> Result<Vec<String>, u8> {
+fn words_of<R: Env + AllocGlobal>(rt: &R) -> Result<Vec<String>, u8>
+    ensures { IfErr result (λ code. (code ≡ 1) ⊎ (code ≡ 7)) }
+{
     let mut all = match env::args(rt) {
         Ok(all) => all,
         Err(error) if error.kind() == ErrorKind::OutOfMemory => return Err(NO_MEMORY),
@@ -31,13 +38,27 @@ fn words_of<R: Env + AllocGlobal>(rt: &R) -> Result<Vec<String>, u8> {
     }
 }
 
+// Runs with these words and gives the code of the run's status, or the code that stands in place of the words.
+fn end_code<S: Source, K: Sink>(
+    alloc: Global,
+    words: Result<Vec<String>, u8>,
+    source: &mut S,
+    sink: &mut K,
+) -> ExitCode
+    ensures no_words { IfErr words (λ code. exit_status result ≡ code) }
+    ensures ends { IfOk words (λ texts. Ends (map string_bytes texts.items)
+        (S.left source.old) (S.left source.new)
+        (K.written sink.old) (K.written sink.new) (exit_status result)) }
+{
+    match words {
+        Ok(words) => ExitCode::from(judge::run(alloc, &words, source, sink).code()),
+        Err(code) => ExitCode::from(code),
+    }
+}
+
 fn main(rt: HostRuntime) -> ExitCode {
-    let words = match words_of(&rt) {
-        Ok(words) => words,
-        Err(code) => return ExitCode::from(code),
-    };
+    let words = words_of(&rt);
     let mut source = StdinSource::new(rt.stdin());
     let mut sink = StdoutSink::new(rt.stdout());
-    let status = judge::run(rt.alloc(), &words, &mut source, &mut sink);
-    ExitCode::from(status.code())
+    end_code(rt.alloc(), words, &mut source, &mut sink)
 }

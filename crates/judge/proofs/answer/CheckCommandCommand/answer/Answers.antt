@@ -1,9 +1,13 @@
 use Rattle.std.proofs.Common.{codes, inr, refl}
 use Rattle.judge.proofs.Pairs.{printed_answers}
-use Rattle.judge.proofs.answer.CheckTaskLineTask.answer.Goals as goal
+use Rattle.judge.proofs.answer.CheckCommandCommand.answer.Goals as goal
 
 pub returns-in_default : goal.returns-in_default
-returns-in_default c = record { answer = codes "bad line"; right = inr (record { no_pair = rw c.in_default.is at c.in_ok-keywords.ensures; named = refl }); is = refl }
+returns-in_default c = record {
+  answer = codes "bad line";
+  right = inr (record { no_pair = rw c.in_default.is at c.in_ok-keywords.ensures; named = refl });
+  is = refl;
+}
 
 pub returns : goal.returns
 returns c =

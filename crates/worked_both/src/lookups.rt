@@ -1,8 +1,8 @@
 //! Look-ups by key and string nodes, over both representations.
 
-use json_exact::{Map, OutOfMemory, Value};
+use json_exact::{Map, Number, OutOfMemory, Value};
 use json_semantics::{SerdeJson, ValueNode};
-use json_traits::{HasName, Json, Node, Object};
+use json_traits::{HasName, Json, JsonNumber, Node, Object};
 use jsonb::Jsonb;
 use jsonb::encode::{assemble, decode_hex};
 use std::alloc::Global;
@@ -97,6 +97,42 @@ fn members_are_looked_up_by_key(rt: HostRuntime) -> Result<(), Fail> {
             none,
             "at {slice}"
         );
+    }
+    Ok(())
+}
+
+/// The whole number under a prepared key.
+fn whole_under<'a, F, O>(alloc: Global, object: O, name: &str) -> Result<Option<i64>, OutOfMemory>
+where
+    F: Json<'a>,
+    O: Object<'a, Node = F::Node, Key = F::PreparedKey>,
+{
+    let key = F::prepare_key(alloc, name)?;
+    let Some(node) = object.get(&key) else {
+        return Ok(None);
+    };
+    match node.as_number() {
+        Some(number) => Ok(number.as_i64()),
+        None => Ok(None),
+    }
+}
+
+#[test]
+fn a_number_is_under_its_key(rt: HostRuntime) -> Result<(), Fail> {
+    let alloc = rt.alloc();
+    // {"a":1}
+    let bytes = decode_hex(alloc, "01000020010000800b000010610000002000000000800100")?;
+    let in_slice = Jsonb::root(alloc, &bytes)?.as_object().ok_or("an object")?;
+    let mut members = Map::new(alloc);
+    members.insert(
+        String::from_str(alloc, "a")?,
+        Value::Number(Number::parse("1")?),
+    )?;
+    let value = Value::Object(members);
+    let in_memory = ValueNode::new(&value).as_object().ok_or("an object")?;
+    for (name, found) in [("a", Some(1)), ("b", None)] {
+        assert_eq!(rt; whole_under::<Jsonb, _>(alloc, in_slice, name)?, found);
+        assert_eq!(rt; whole_under::<SerdeJson, _>(alloc, in_memory, name)?, found);
     }
     Ok(())
 }

@@ -1,6 +1,8 @@
 pub mod DigitLaws
 pub mod SignLaws
 pub mod NarrowLaws
+pub mod NarrowGroupLaws
+pub mod RegroupLaws
 pub mod PushLaws
 pub mod FieldLaws
 pub mod GroupLaws

@@ -15,11 +15,15 @@ abbrev pub spread : ℕ → ℕ → ℕ → List ℕ
 spread b zero m = []
 spread b (suc n) m = (m / b ^ n) ∷ spread b n (m % b ^ n)
 
--- how many decimal digits a number has that is at most `fuel`
-abbrev pub count_in : ℕ → ℕ → ℕ
-count_in zero n = 0
-count_in (suc fuel) n = elim (n == 0) [ true ↦ 0 | false ↦ suc (count_in fuel (n / 10)) ]
+-- how many digits of base b a number has that is at most `fuel`
+abbrev pub count_in : ℕ → ℕ → ℕ → ℕ
+count_in b zero n = 0
+count_in b (suc fuel) n = elim (n == 0) [ true ↦ 0 | false ↦ suc (count_in b fuel (n / b)) ]
+
+-- how many digits of base b a number has, none leading: 0 has none
+unfoldable pub count_of : ℕ → ℕ → ℕ
+count_of b n = count_in b n n
 
 -- how many decimal digits a number has, none leading: 0 has none
 unfoldable pub count : ℕ → ℕ
-count n = count_in n n
+count n = count_of 10 n

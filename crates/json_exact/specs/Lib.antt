@@ -1,5 +1,7 @@
 pub mod Exact
 pub mod Digits
+pub mod LeadingDigits
+pub mod LeadingDigitsLaws
 pub mod Text
 pub mod Groups
 pub mod Literal
@@ -7,6 +9,7 @@ pub mod Parsed
 pub mod Reading
 pub mod LiteralParts
 pub mod SignificantDigits
+pub mod SignificantGroups
 pub mod DecimalFields
 pub mod NumberFields
 pub mod DecimalInverseLaws

@@ -1,29 +1,35 @@
-//! `Decimal`: an exact decimal of at most 38 digits.
+//! `Decimal`: an exact decimal of at most 38 digits, kept in groups of four.
 
-ghost use Rattle.std.specs.Prelude.{ℕ, ◌+◌, ◌*◌, ◌/◌, ◌%◌, ◌^◌, ◌≤◌, ◌<◌, ◌≡◌, ◌↔◌, pos, ◌*ℤ◌, nat_abs, int_lt, false, length, drop, All, MatchOption, IfSome, IsTrue};
+ghost use Rattle.std.specs.Prelude.{ℕ, suc, ◌+◌, ◌-◌, ◌*◌, ◌/◌, ◌%◌, ◌^◌, ◌≤◌, ◌<◌, ◌≡◌, ◌↔◌, pos, ◌*ℤ◌, nat_abs, int_lt, false, length, drop, All, MatchOption, IfSome, IsTrue};
 ghost use Rattle.std.specs.Ordering.{nat_cmp};
 ghost use Rattle.json_model.specs.Decimal.{HasNarrowDigits, IsWhole};
 ghost use Rattle.json_exact.specs.Digits.{joined, count};
 ghost use Rattle.json_exact.specs.Exact.{signed, exactly, parts, IsWithinLimits};
 ghost use Rattle.json_exact.specs.Groups.{groups_of, lifted, AreGroups, AreWorth};
 ghost use Rattle.json_exact.specs.SignificantDigits.{Holds};
+ghost use Rattle.json_exact.specs.SignificantGroups.{HoldsGroups};
 
+use crate::regrouping::regrouped;
 use crate::significant_digits::SignificantDigits;
+use crate::significant_groups::SignificantGroups;
 use std::cmp::Ordering;
 use std::marker::Model;
 
 /// How many fraction digits write each `Decimal` exactly.
 pub(crate) const FRACTION_DIGITS: u32 = 16_383;
 
+/// How many groups stand behind the point where all fraction digits of a `Decimal` are written, and one more digit, which is 0.
+const FRACTION_GROUPS: u16 = 4_096;
+
 /// An exact decimal: at most 38 digits from the first to the last that is not 0, of a magnitude below 10^131072, and
 /// written exactly by 16,383 fraction digits. `==` and `<` compare values. Zero has no sign.
 #[derive(Clone, Copy, Debug)]
 pub struct Decimal {
     negative: bool,
-    // the digits from the first that is not 0 on; all 0 where the value is
-    digits: [u8; 38],
-    // how many digits the magnitude has when it is written with `FRACTION_DIGITS` fraction digits; 0 where the value is
-    top: u32,
+    // groups of four digits from the first that is not 0 on; all 0 where the value is
+    groups: [u16; 11],
+    // how many groups the magnitude has when it is written with `FRACTION_GROUPS` groups behind the point; 0 where the value is
+    top: u16,
 }
 
 impl Model for Decimal {
@@ -43,20 +49,20 @@ impl Model for Decimal {
     ghost inverse_ok = { fields_of-parts_of };
 }
 
-/// The digits that groups write.
-fn digits_of(groups: &[u8]) -> SignificantDigits
-    requires len { length groups.now < 2 ^ 63 }
-    requires groups { AreGroups groups.now }
-    ensures len { result.len ≤ 2 * length groups.now }
-    ensures holds { Holds result (joined 10000 (groups_of groups.now)) }
+/// The groups that bytes hold.
+fn groups_of(bytes: &[u8]) -> SignificantGroups
+    requires len { length bytes.now < 2 ^ 63 }
+    requires groups { AreGroups bytes.now }
+    ensures len { result.len ≤ length bytes.now / 2 }
+    ensures holds { HoldsGroups result (joined 10000 (groups_of bytes.now)) }
 {
-    let mut digits = SignificantDigits::new();
-    let mut rest = groups;
+    let mut groups = SignificantGroups::new();
+    let mut rest = bytes;
     while let [low, high, more @ ..] = rest {
-        digits.push_group(*low as u16 + 256 * *high as u16);
+        groups.push(*low as u16 + 256 * *high as u16);
         rest = more;
     }
-    digits
+    groups
 }
 
 /// How far a weight lies above the least one.
@@ -66,47 +72,95 @@ fn lifted(weight: i16) -> u16
     weight.abs_diff(i16::MIN)
 }
 
-/// Whether all digits from an index on are 0.
-fn ends_in_zeros(digits: &[u8], index: usize) -> bool
-    ensures { IsTrue result ↔ All (λ d. d ≡ 0) (drop index digits.now) }
+/// Whether all groups from an index on are 0.
+fn ends_in_zeros(groups: &[u16], index: usize) -> bool
+    ensures { IsTrue result ↔ All (λ g. g ≡ 0) (drop index groups.now) }
 {
-    if index >= digits.len() {
+    if index >= groups.len() {
         return true;
     }
-    digits[index..].iter().all(|&digit| digit == 0)
+    groups[index..].iter().all(|&group| group == 0)
+}
+
+/// The digit of a group at a place from 0 to 3; the last digit has place 0.
+fn digit_of_group(group: u16, place: u64) -> u8
+    requires group { group < 10000 }
+    requires place { place < 4 }
+    ensures { result ≡ group / 10 ^ place % 10 }
+{
+    let digit = match place {
+        0 => group % 10,
+        1 => group / 10 % 10,
+        2 => group / 100 % 10,
+        _ => group / 1000,
+    };
+    digit as u8
+}
+
+/// How many digits stand behind the first digit of a group that is not 0.
+fn digits_behind_first(group: u16) -> u32
+    requires group { group < 10000 }
+    requires some { 0 < group }
+    ensures low { 10 ^ result ≤ group }
+    ensures high { group < 10 ^ suc result }
+    ensures few { result < 4 }
+{
+    if group < 10 {
+        0
+    } else if group < 100 {
+        1
+    } else if group < 1000 {
+        2
+    } else {
+        3
+    }
 }
 
 impl Decimal {
-    /// The decimal whose magnitude, in units of its last of `FRACTION_DIGITS` fraction digits, is the number that
-    /// `digits` holds times 10^`up` divided by 10^`down`.
-    pub(crate) fn from_digits(
-        negative: bool,
-        digits: SignificantDigits,
-        up: u128,
-        down: u128,
-    ) -> Decimal
-        requires up { up < 2 ^ 100 }
-        requires down { down < 2 ^ 100 }
-        requires kept { digits.too_wide ≡ false }
-        requires exact { (n q : ℕ) × Holds digits n × (n * 10 ^ up ≡ q * 10 ^ down) }
-        requires low { digits.len + up ≤ 147455 + down }
-        ensures value { (n q : ℕ) → Holds digits n → n * 10 ^ up ≡ q * 10 ^ down → result ≡ signed negative q }
+    /// The decimal whose magnitude, in units of the last digit of its `FRACTION_GROUPS`, is the number that `groups` holds
+    /// times 10000^`up` divided by 10000^`down`.
+    fn from_significant(negative: bool, groups: SignificantGroups, up: u64, down: u64) -> Decimal
+        requires down { down < 2 ^ 63 }
+        requires kept { groups.too_wide ≡ false }
+        requires exact { (n q : ℕ) × HoldsGroups groups n × HasNarrowDigits n × (n * 10000 ^ up ≡ q * 10 * 10000 ^ down) }
+        requires low { groups.len + up ≤ 36864 + down }
+        ensures value { (n q : ℕ) → HoldsGroups groups n → n * 10000 ^ up ≡ q * 10 * 10000 ^ down → result ≡ signed negative q }
         ensures limits { IsWithinLimits result }
     {
-        let kept = digits.digits;
-        if digits.len == 0 {
+        let kept = groups.groups;
+        if groups.len == 0 {
             Decimal {
                 negative: false,
-                digits: kept,
+                groups: kept,
                 top: 0,
             }
         } else {
             Decimal {
                 negative,
-                digits: kept,
-                top: (digits.len as u128 + up - down) as u32,
+                groups: kept,
+                top: (groups.len + up - down) as u16,
             }
         }
+    }
+
+    /// The decimal whose magnitude, in units of its last of `FRACTION_DIGITS` fraction digits, is the number that
+    /// `digits` holds times 10^`up`.
+    pub(crate) fn from_digits(negative: bool, digits: SignificantDigits, up: u32) -> Decimal
+        requires kept { digits.too_wide ≡ false }
+        requires some { (n : ℕ) × Holds digits n }
+        requires low { digits.len + up ≤ 147455 }
+        ensures value { (n : ℕ) → Holds digits n → result ≡ signed negative (n * 10 ^ up) }
+        ensures limits { IsWithinLimits result }
+    {
+        // One more digit ends the last group.
+        let count = digits.len + up as u64 + 1;
+        let padding = (4 - count % 4) % 4;
+        Decimal::from_significant(
+            negative,
+            regrouped(&digits.digits, padding),
+            (count + padding) / 4,
+            11,
+        )
     }
 
     /// The sum of group i times 10000^(`weight` - i), negated where `negative` is true. Each group is two bytes of
@@ -121,13 +175,13 @@ impl Decimal {
             MatchOption result (¬ HasNarrowDigits q) (λ d. d ≡ signed negative q) }
         ensures limits { IfSome result (λ d. IsWithinLimits d) }
     {
-        let digits = digits_of(groups);
-        if digits.too_wide {
+        let kept = groups_of(groups);
+        if !kept.is_narrow() {
             return None;
         }
-        let up = FRACTION_DIGITS as u128 + 4 * (lifted(weight) as u128 + 1);
-        let down = 4 * (groups.len() as u128 / 2 + 0x8000);
-        Some(Decimal::from_digits(negative, digits, up, down))
+        let up = lifted(weight) as u64 + 1 + FRACTION_GROUPS as u64;
+        let down = groups.len() as u64 / 2 + 0x8000;
+        Some(Decimal::from_significant(negative, kept, up, down))
     }
 
     /// The decimal of the same value. It needs no memory.
@@ -135,12 +189,7 @@ impl Decimal {
         ensures value { result ≡ pos (value * parts) }
         ensures limits { IsWithinLimits result }
     {
-        Decimal::from_digits(
-            false,
-            SignificantDigits::of_number(value),
-            FRACTION_DIGITS as u128,
-            0,
-        )
+        Decimal::from_digits(false, SignificantDigits::of_number(value), FRACTION_DIGITS)
     }
 
     /// The decimal of the same value. It needs no memory.
@@ -151,18 +200,18 @@ impl Decimal {
         Decimal::from_digits(
             value < 0,
             SignificantDigits::of_number(value.unsigned_abs()),
-            FRACTION_DIGITS as u128,
-            0,
+            FRACTION_DIGITS,
         )
     }
 
-    /// The order of the two magnitudes. A magnitude of more digits is larger, since its first digit is not 0.
+    /// The order of the two magnitudes. A magnitude of more groups is larger, since its first group is not 0.
     fn compare_magnitudes(&self, other: &Decimal) -> Ordering
         ensures { result ≡ nat_cmp (nat_abs self.now) (nat_abs other.now) }
     {
-        self.top
-            .cmp(&other.top)
-            .then(self.digits.cmp(&other.digits))
+        if self.top != other.top {
+            return self.top.cmp(&other.top);
+        }
+        self.groups.cmp(&other.groups)
     }
 
     /// Whether the value is whole, as that of `1.0` is.
@@ -173,8 +222,8 @@ impl Decimal {
         ensures limits { IsWithinLimits self.now }
     {
         ends_in_zeros(
-            &self.digits,
-            self.top.saturating_sub(FRACTION_DIGITS) as usize,
+            &self.groups,
+            self.top.saturating_sub(FRACTION_GROUPS) as usize,
         )
     }
 
@@ -190,21 +239,35 @@ impl Decimal {
     pub(crate) fn digit_count(&self) -> u32
         ensures { result ≡ count (nat_abs self.now) }
     {
-        self.top
+        if self.top == 0 {
+            return 0;
+        }
+        // The last digit of the last group is none of the `FRACTION_DIGITS`.
+        4 * (self.top as u32 - 1) + digits_behind_first(self.groups[0])
+    }
+
+    /// The group at a place of the magnitude. The last of `FRACTION_GROUPS` groups behind the point has place 0.
+    fn group_at(&self, place: u64) -> u16
+        ensures group { result ≡ nat_abs self.now * 10 / 10000 ^ place % 10000 }
+        ensures below { result < 10000 }
+    {
+        if place >= self.top as u64 {
+            return 0;
+        }
+        let index = (self.top as u64 - 1 - place) as usize;
+        if index >= self.groups.len() {
+            return 0;
+        }
+        self.groups[index]
     }
 
     /// The digit at a place of the magnitude. The last of `FRACTION_DIGITS` fraction digits has place 0.
     pub(crate) fn digit_at(&self, place: u32) -> u8
         ensures { result ≡ nat_abs self.now / 10 ^ place % 10 }
     {
-        if place >= self.top {
-            return 0;
-        }
-        let index = (self.top - 1 - place) as usize;
-        if index >= self.digits.len() {
-            return 0;
-        }
-        self.digits[index]
+        // The last digit of the last group is none of the `FRACTION_DIGITS`.
+        let place = place as u64 + 1;
+        digit_of_group(self.group_at(place / 4), place % 4)
     }
 }
 
@@ -218,7 +281,7 @@ impl PartialEq for Decimal {
     ghost laws = { Prim.search (comparing, rules) };
 
     fn eq(&self, other: &Decimal) -> bool {
-        self.negative == other.negative && self.top == other.top && self.digits == other.digits
+        self.negative == other.negative && self.top == other.top && self.groups == other.groups
     }
 }
 

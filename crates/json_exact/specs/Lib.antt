@@ -11,6 +11,7 @@ pub mod LiteralParts
 pub mod SignificantDigits
 pub mod SignificantGroups
 pub mod DecimalFields
+pub mod DecimalGroups
 pub mod NumberFields
 pub mod DecimalInverseLaws
 pub mod NumberInverseLaws

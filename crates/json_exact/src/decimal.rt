@@ -1,14 +1,18 @@
 //! `Decimal`: an exact decimal of at most 38 digits, kept in groups of four.
 
-ghost use Rattle.std.specs.Prelude.{ℕ, suc, ◌+◌, ◌-◌, ◌*◌, ◌/◌, ◌%◌, ◌^◌, ◌≤◌, ◌<◌, ◌≡◌, ◌↔◌, pos, ◌*ℤ◌, nat_abs, int_lt, false, length, drop, All, MatchOption, IfSome, IsTrue};
+ghost use Rattle.std.specs.Prelude.{ℕ, suc, ◌+◌, ◌-◌, ◌*◌, ◌/◌, ◌%◌, ◌^◌, ◌≤◌, ◌<◌, ◌≡◌, ◌↔◌, pos, ◌+ℤ◌, ◌*ℤ◌, ◌<ℤ◌, nat_abs, int_lt, false, length, MatchOption, IfSome, IsTrue};
 ghost use Rattle.std.specs.Ordering.{nat_cmp};
 ghost use Rattle.json_model.specs.Decimal.{HasNarrowDigits, IsWhole};
+ghost use Rattle.json_exact.specs.DecimalGroups.{group, IsGreatestPlace, IsLeastPlace, IsScaled};
 ghost use Rattle.json_exact.specs.Digits.{joined, count};
 ghost use Rattle.json_exact.specs.Exact.{signed, exactly, parts, IsWithinLimits};
 ghost use Rattle.json_exact.specs.Groups.{groups_of, lifted, AreGroups, AreWorth};
 ghost use Rattle.json_exact.specs.SignificantDigits.{Holds};
 ghost use Rattle.json_exact.specs.SignificantGroups.{HoldsGroups};
 
+use crate::group::{
+    digit_of_group, digits_behind_first, ends_in_zeros, last_index, number_of, without_zeros,
+};
 use crate::regrouping::regrouped;
 use crate::significant_digits::SignificantDigits;
 use crate::significant_groups::SignificantGroups;
@@ -30,6 +34,17 @@ pub struct Decimal {
     groups: [u16; 11],
     // how many groups the magnitude has when it is written with `FRACTION_GROUPS` groups behind the point; 0 where the value is
     top: u16,
+}
+
+/// A value as a mantissa and an exponent: that of -0.50 is -5 * 10^-1.
+#[derive(Clone, Copy, Debug, PartialEq, Eq)]
+pub struct DecimalParts {
+    /// Whether the value is below zero.
+    pub negative: bool,
+    /// The magnitude without the zeros at its end. It has at most 38 digits, and is 0 for zero.
+    pub mantissa: u128,
+    /// The power of ten that the mantissa is multiplied by; 0 for zero.
+    pub exponent: i32,
 }
 
 impl Model for Decimal {
@@ -65,55 +80,34 @@ fn groups_of(bytes: &[u8]) -> SignificantGroups
     groups
 }
 
+/// The place that counts from the point, of one that counts from the last of the `FRACTION_GROUPS`.
+fn place_of(lifted: u16) -> i32
+    ensures { result +ℤ pos 4096 ≡ pos lifted }
+{
+    lifted as i32 - FRACTION_GROUPS as i32
+}
+
+/// The power of ten of the digit that `zeros` digits follow in the group at a place. The place counts from the last of the
+/// `FRACTION_GROUPS`.
+fn exponent_of(lifted: u16, zeros: u32) -> i32
+    requires zeros { zeros < 4 }
+    ensures { result +ℤ pos 16384 ≡ pos (4 * lifted + zeros) }
+{
+    4 * lifted as i32 + zeros as i32 - 4 * FRACTION_GROUPS as i32
+}
+
+/// The place that counts from the last of the `FRACTION_GROUPS`, of one that counts from the point.
+fn lifted_place(place: i32) -> Option<u64>
+    ensures { MatchOption result ((place +ℤ pos 4096) <ℤ pos 0) (λ lifted. place +ℤ pos 4096 ≡ pos lifted) }
+{
+    u64::try_from(place as i64 + FRACTION_GROUPS as i64).ok()
+}
+
 /// How far a weight lies above the least one.
 fn lifted(weight: i16) -> u16
     ensures { result ≡ lifted weight }
 {
     weight.abs_diff(i16::MIN)
-}
-
-/// Whether all groups from an index on are 0.
-fn ends_in_zeros(groups: &[u16], index: usize) -> bool
-    ensures { IsTrue result ↔ All (λ g. g ≡ 0) (drop index groups.now) }
-{
-    if index >= groups.len() {
-        return true;
-    }
-    groups[index..].iter().all(|&group| group == 0)
-}
-
-/// The digit of a group at a place from 0 to 3; the last digit has place 0.
-fn digit_of_group(group: u16, place: u64) -> u8
-    requires group { group < 10000 }
-    requires place { place < 4 }
-    ensures { result ≡ group / 10 ^ place % 10 }
-{
-    let digit = match place {
-        0 => group % 10,
-        1 => group / 10 % 10,
-        2 => group / 100 % 10,
-        _ => group / 1000,
-    };
-    digit as u8
-}
-
-/// How many digits stand behind the first digit of a group that is not 0.
-fn digits_behind_first(group: u16) -> u32
-    requires group { group < 10000 }
-    requires some { 0 < group }
-    ensures low { 10 ^ result ≤ group }
-    ensures high { group < 10 ^ suc result }
-    ensures few { result < 4 }
-{
-    if group < 10 {
-        0
-    } else if group < 100 {
-        1
-    } else if group < 1000 {
-        2
-    } else {
-        3
-    }
 }
 
 impl Decimal {
@@ -259,6 +253,65 @@ impl Decimal {
             return 0;
         }
         self.groups[index]
+    }
+
+    /// The greatest place whose group is not 0, as 1 of 12345 and -1 of 0.5; 0 for zero.
+    pub fn weight(&self) -> i32
+        ensures zero { self.now ≡ pos 0 → result ≡ pos 0 }
+        ensures greatest { (self.now ≡ pos 0 → ⊥) → IsGreatestPlace (nat_abs self.now) result }
+    {
+        if self.top == 0 {
+            return 0;
+        }
+        place_of(self.top - 1)
+    }
+
+    /// The least place whose group is not 0, as 0 of 12345 and -1 of 12345.6; 0 for zero.
+    pub fn last_place(&self) -> i32
+        ensures zero { self.now ≡ pos 0 → result ≡ pos 0 }
+        ensures least { (self.now ≡ pos 0 → ⊥) → IsLeastPlace (nat_abs self.now) result }
+    {
+        if self.top == 0 {
+            return 0;
+        }
+        let last = last_index(&self.groups) as u16;
+        place_of(self.top - 1 - last)
+    }
+
+    /// The group at a place: the magnitude divided by 10000^`place`, rounded down, modulo 10000. Of 12345 the group at place 0
+    /// is 2345, and that at place -1 is 0.
+    pub fn group(&self, place: i32) -> u16
+        ensures { result ≡ group place (nat_abs self.now) }
+    {
+        match lifted_place(place) {
+            Some(lifted) => self.group_at(lifted),
+            None => 0,
+        }
+    }
+
+    /// The value as a mantissa that does not end in 0, and a power of ten: 1200 is 12 * 10^2. It needs no memory.
+    pub fn parts(&self) -> DecimalParts
+        ensures negative { result.negative ≡ int_lt self.now (pos 0) }
+        ensures magnitude { IsScaled (nat_abs self.now) result.mantissa result.exponent }
+        ensures last { (self.now ≡ pos 0 → ⊥) → 0 < result.mantissa % 10 }
+        ensures zero { self.now ≡ pos 0 → (result.mantissa ≡ 0) × (result.exponent ≡ pos 0) }
+        ensures narrow { result.mantissa < 10 ^ 38 }
+    {
+        if self.top == 0 {
+            return DecimalParts {
+                negative: self.negative,
+                mantissa: 0,
+                exponent: 0,
+            };
+        }
+        let last = last_index(&self.groups);
+        let ending = without_zeros(self.groups[last]);
+        let before = number_of(&self.groups, last);
+        DecimalParts {
+            negative: self.negative,
+            mantissa: before * ending.scale as u128 + ending.digits as u128,
+            exponent: exponent_of(self.top - 1 - last as u16, ending.zeros),
+        }
     }
 
     /// The digit at a place of the magnitude. The last of `FRACTION_DIGITS` fraction digits has place 0.

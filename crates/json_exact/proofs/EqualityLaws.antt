@@ -29,22 +29,22 @@ same a b x y s t e = sym (fields_of-parts_of a s.fields) ∙ ap fields_of (s.vie
 pub unequal : (a b : Inside) (x y : ℤ) → Seen a x → Seen b y → (a ≡ b → ⊥) → int_eq x y ≡ false
 unequal a b x y s t h = differ x y (λ e. h (same a b x y s t e))
 
--- where the sign and the place are the same, the digits tell
-pub tested : (a b : Inside) (x y : ℤ) (r : Bool) → Seen a x → Seen b y → a.negative ≡ b.negative → a.top ≡ b.top → r ≡ pointwise eqb a.digits b.digits → r ≡ int_eq x y
+-- where the sign and the place are the same, the groups tell
+pub tested : (a b : Inside) (x y : ℤ) (r : Bool) → Seen a x → Seen b y → a.negative ≡ b.negative → a.top ≡ b.top → r ≡ pointwise eqb a.groups b.groups → r ≡ int_eq x y
 tested a b x y r s u n p e = go r refl
   where
-    d : Decides r (a.digits ≡ b.digits)
-    d = slice_eq-Decides Decides-eqb a.digits b.digits r e
+    d : Decides r (a.groups ≡ b.groups)
+    d = slice_eq-Decides Decides-eqb a.groups b.groups r e
 
-    all : a.digits ≡ b.digits → a ≡ b
-    all f = ap (λ (n : Bool). record { negative = n; digits = a.digits; top = a.top }) n ∙ ap (λ (ds : List ℕ). record { negative = b.negative; digits = ds; top = a.top }) f ∙ ap (λ (t : ℕ). record { negative = b.negative; digits = b.digits; top = t }) p
+    all : a.groups ≡ b.groups → a ≡ b
+    all f = ap (λ (n : Bool). record { negative = n; groups = a.groups; top = a.top }) n ∙ ap (λ (ds : List ℕ). record { negative = b.negative; groups = ds; top = a.top }) f ∙ ap (λ (t : ℕ). record { negative = b.negative; groups = b.groups; top = t }) p
 
     not_both : r ≡ true → r ≡ false → ⊥
     not_both u v = cc
 
     go : (t : Bool) → r ≡ t → r ≡ int_eq x y
     go true f = f ∙ sym ((Decides-int_eq x y).1 (sym s.view_is ∙ ap parts_of (all (d.0 f)) ∙ u.view_is))
-    go false f = f ∙ sym (unequal a b x y s u (λ g. not_both (d.1 (ap (λ (i : Inside). i.digits) g)) f))
+    go false f = f ∙ sym (unequal a b x y s u (λ g. not_both (d.1 (ap (λ (i : Inside). i.groups) g)) f))
 
 pub beq_same : (a b : Bool) → beq a b ≡ true → a ≡ b
 beq_same true true e = refl

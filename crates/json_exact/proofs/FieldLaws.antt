@@ -1,103 +1,116 @@
 -- The fields that significant digits make.
 use Rattle.std.proofs.Common.{◌≡◌, ℕ, zero, suc, ◌+◌, ◌-◌, ◌*◌, ◌^◌, ◌<◌, ◌≤◌, Bool, true, false, List, refl, sym, ap, subst, ◌∙◌, arith, inl, inr, pos}
-use Rattle.std.proofs.Math.Nat.{mul-lt-mul_of_pos_right, mul-le-mul_right, eq_of_mul-eq-mul_right}
+use Rattle.std.proofs.Math.Nat.{mul-lt-mul_of_pos_right, eq_of_mul-eq-mul_right}
 use Rattle.std.proofs.lemmas.Nat.{pow-add}
 use Rattle.std.proofs.lemmas.Bool.{cases_lt}
+use native.Mathlib.Numerals.{unary_clauses}
+use Rattle.json_model.specs.Decimal.{HasNarrowDigits}
 use Rattle.json_exact.specs.Exact.{signed}
 use Rattle.json_exact.specs.Digits.{joined}
-use Rattle.json_exact.proofs.DigitLaws.{ten_mono}
+use Rattle.json_exact.specs.LeadingDigits.{Keeps}
+use Rattle.json_exact.specs.LeadingDigitsLaws.{power_pos, below_len, from_len}
 use Rattle.json_exact.specs.DecimalFields.{parts_of, IsFields}
-use Rattle.json_exact.specs.DecimalInverseLaws.{ten_pos, joined_below, size_is}
-use Rattle.json_exact.specs.SignificantDigits.{Keeps, Pushed, kept, lost}
+use Rattle.json_exact.specs.DecimalInverseLaws.{size_is}
+use Rattle.json_exact.specs.SignificantDigits.{Pushed, kept, lost}
+use Rattle.json_exact.proofs.DigitLaws.{power_mono, none_of, above_of, factor_last}
+use Rattle.json_exact.proofs.GroupLaws.{fours}
+use Rattle.json_exact.proofs.NarrowLaws.{narrow_same}
 
-pub keeps_of : (ds : List ℕ) (len : ℕ) (w : Bool) (n : ℕ) → Pushed ds len w n → w ≡ false → Keeps ds len n
-keeps_of ds len false n (kept h) e = h
+pub keeps_of : {b more : ℕ} (ds : List ℕ) (len : ℕ) (w : Bool) (n : ℕ) → Pushed b more ds len w n → w ≡ false → Keeps b more ds len n
+keeps_of ds len false n (kept h rest) e = h
 keeps_of ds len true n (lost h) e = absurd cc
 
-pub joined_small : (ds : List ℕ) (len n : ℕ) → Keeps ds len n → joined 10 ds < 10 ^ 38
-joined_small ds len n h = subst (λ (k : ℕ). joined 10 ds < 10 ^ k) h.count (joined_below 10 ds h.below)
+module _ (b more : ℕ) (two : 1 < b) where
+  pub none_is : (ds : List ℕ) (n : ℕ) → Keeps b more ds 0 n → n ≡ 0
+  none_is ds n h = let l = below_len b more two ds 0 n h in let e : b ^ 0 ≡ 1 = simp unary_clauses in omega arith
 
-pub none_is : (ds : List ℕ) (n up down q : ℕ) → Keeps ds 0 n → n * 10 ^ up ≡ q * 10 ^ down → (joined 10 ds ≡ 0) × (q ≡ 0)
-none_is ds n up down q h e = elim h.lead [
-  | inl z ↦ let a : joined 10 ds * 10 ^ 0 ≡ 0 = rw (z.1) (omega arith) in
-      let s = h.size in
-      let n0 : n ≡ 0 = omega arith in
-      let b : n * 10 ^ up ≡ 0 = rw n0 (omega arith) in
-      (z.1, nothing q (10 ^ down) (ten_pos down) (omega arith))
-  | inr z ↦ absurd (let p = z.0 in omega arith)
-]
+  pub some_is : (ds : List ℕ) (len n : ℕ) → 0 < len → Keeps b more ds len n → 0 < n
+  some_is ds zero n some h = absurd (omega arith)
+  some_is ds (suc under) n some h = let l = from_len b more two ds under n h in let p = power_pos b under (omega arith) in omega arith
+
+  -- q is n moved up by some digits and down by others; it has no digits that are cut off
+  pub under : (ds : List ℕ) (len n up down q : ℕ) → 0 < len → Keeps b more ds len n → n * b ^ up ≡ q * b ^ down → down < len + up
+  under ds len n up down q some h e = elim (cases_lt down (len + up)) [
+    | inl lt ↦ lt
+    | inr ge ↦ absurd (
+        let p : 0 < q * b ^ down = subst (λ (x : ℕ). 0 < x) e (above_of n (b ^ up) (some_is ds len n some h) (power_pos b up (omega arith))) in
+        let l : n * b ^ up < b ^ len * b ^ up = mul-lt-mul_of_pos_right (below_len b more two ds len n h) (power_pos b up (omega arith)) in
+        let m : b ^ (len + up) ≤ b ^ down = power_mono b (len + up) down (omega arith) ge in
+        let s = pow-add b len up in
+        let g = at_least q (b ^ down) p in
+        omega arith)
+  ]
+    where
+      at_least : (q u : ℕ) → 0 < q * u → u ≤ q * u
+      at_least zero u h = absurd (omega arith)
+      at_least (suc q) u h = omega arith
+
+  -- and the same first digits
+  pub moved : (ds : List ℕ) (len n up down q : ℕ) → 0 < len → Keeps b more ds len n → n * b ^ up ≡ q * b ^ down → Keeps b more ds (len + up - down) q
+  moved ds len n up down q some h e =
+      let lt = under ds len n up down q some h e in
+      let i : len + up - down + down ≡ len + up = omega arith in
+      let g : b ^ (len + up) ≡ b ^ (len + up - down) * b ^ down = ap (λ (k : ℕ). b ^ k) (sym i) ∙ pow-add b (len + up - down) down in
+      record {
+        count = h.count;
+        below = h.below;
+        size = eq_of_mul-eq-mul_right (b ^ down) (power_pos b down (omega arith)) (q * b ^ suc more) (joined b ds * b ^ (len + up - down))
+            (turn n q (joined b ds) (b ^ up) (b ^ down) (b ^ suc more) (b ^ len) e h.size ∙ ap (λ (x : ℕ). joined b ds * x) (sym (pow-add b len up) ∙ g) ∙ sym (factor_last (joined b ds) (b ^ (len + up - down)) (b ^ down)));
+        lead = elim h.lead [ inl z ↦ absurd (let t = z.0 in omega arith) | inr z ↦ inr (omega arith, z.1) ];
+      }
+    where
+      turn : (n q j u d a l : ℕ) → n * u ≡ q * d → n * a ≡ j * l → q * a * d ≡ j * (l * u)
+      turn n q j u d a l e f =
+          let x : n * u * a ≡ q * d * a = ap (λ (x : ℕ). x * a) e in
+          let y : n * a * u ≡ j * l * u = ap (λ (x : ℕ). x * u) f in
+          omega arith
+
+-- what is moved by whole groups is as narrow
+pub narrow_moved : (n q up down : ℕ) → n * 10000 ^ up ≡ q * 10 * 10000 ^ down → HasNarrowDigits n → HasNarrowDigits q
+narrow_moved n q up down e h = narrow_same q n (4 * down + 1) (4 * up) (shifted ∙ sym e ∙ ap (λ (x : ℕ). n * x) (fours up)) h
   where
-    nothing : (q p : ℕ) → 0 < p → q * p ≡ 0 → q ≡ 0
-    nothing zero p h e = refl
-    nothing (suc q) p h e = absurd (omega arith)
+    shifted : q * 10 ^ (4 * down + 1) ≡ q * 10 * 10000 ^ down
+    shifted = ap (λ (x : ℕ). q * x) (pow-add 10 (4 * down) 1) ∙ turned q (10 ^ (4 * down)) ∙ ap (λ (x : ℕ). q * 10 * x) (sym (fours down))
+      where
+        turned : (q p : ℕ) → q * (p * 10) ≡ q * 10 * p
+        turned q p = omega arith
 
-pub record Some (j len up down q : ℕ) : Type 0 where
-  pub least : 10 ^ 37 ≤ j
-  pub under : down ≤ len + up
-  pub exact : j * 10 ^ (len + up - down) ≡ q * 10 ^ 38
-
-pub some_is : (ds : List ℕ) (len n up down q : ℕ) → 0 < len → Keeps ds len n → n * 10 ^ up ≡ q * 10 ^ down → Some (joined 10 ds) len up down q
-some_is ds len n up down q some h e = elim h.lead [
-  | inl z ↦ absurd (let p = z.0 in omega arith)
-  | inr z ↦ record { least = z.1; under = under z.1; exact = exact z.1 }
-]
+pub wide_moved : (n q up down : ℕ) → n * 10000 ^ up ≡ q * 10 * 10000 ^ down → HasNarrowDigits q → HasNarrowDigits n
+wide_moved n q up down e h = narrow_same n q (4 * up) (4 * down + 1) (ap (λ (x : ℕ). n * x) (sym (fours up)) ∙ e ∙ sym shifted) h
   where
-    above : (j a q b : ℕ) → 0 < j → 0 < a → q * b ≡ j * a → 0 < q
-    above zero a q b p r e = absurd (omega arith)
-    above (suc j) zero q b p r e = absurd (omega arith)
-    above (suc j) (suc a) zero b p r e = absurd (omega arith)
-    above (suc j) (suc a) (suc q) b p r e = omega arith
-
-    all : q * 10 ^ 38 * 10 ^ down ≡ joined 10 ds * 10 ^ (len + up)
-    all = rw (pow-add 10 len up) (step n q (joined 10 ds) (10 ^ up) (10 ^ down) (10 ^ 38) (10 ^ len) e h.size)
+    shifted : q * 10 ^ (4 * down + 1) ≡ q * 10 * 10000 ^ down
+    shifted = ap (λ (x : ℕ). q * x) (pow-add 10 (4 * down) 1) ∙ turned q (10 ^ (4 * down)) ∙ ap (λ (x : ℕ). q * 10 * x) (sym (fours down))
       where
-        step : (n q j u d a l : ℕ) → n * u ≡ q * d → n * a ≡ j * l → q * a * d ≡ j * (l * u)
-        step n q j u d a l e f = let x : n * u * a ≡ q * d * a = ap (λ (x : ℕ). x * a) e in let y : n * a * u ≡ j * l * u = ap (λ (x : ℕ). x * u) f in omega arith
+        turned : (q p : ℕ) → q * (p * 10) ≡ q * 10 * p
+        turned q p = omega arith
 
-    under : 10 ^ 37 ≤ joined 10 ds → down ≤ len + up
-    under lo = elim (cases_lt (len + up) down) [
-      | inr le ↦ le
-      | inl lt ↦ absurd (
-          let small = joined_small ds len n h in
-          let p : 0 < q * 10 ^ 38 = above (joined 10 ds) (10 ^ (len + up)) (q * 10 ^ 38) (10 ^ down) (omega arith) (ten_pos (len + up)) all in
-          let a : 10 ^ 38 * 10 ^ down ≤ q * 10 ^ 38 * 10 ^ down = mul-le-mul_right (10 ^ down) (omega arith) in
-          let b : joined 10 ds * 10 ^ (len + up) < 10 ^ 38 * 10 ^ (len + up) = mul-lt-mul_of_pos_right small (ten_pos (len + up)) in
-          let c : 10 ^ (len + up) ≤ 10 ^ down = ten_mono (len + up) down (omega arith) in
-          let g = all in
-          omega arith)
-    ]
+none_group : (gs : List ℕ) (n : ℕ) → Keeps 10000 10 gs 0 n → Keeps 10000 10 gs 0 (0 * 10)
+none_group gs n h = subst (λ (x : ℕ). Keeps 10000 10 gs 0 x) (none_is 10000 10 (omega arith) gs n h) h
 
-    exact : 10 ^ 37 ≤ joined 10 ds → joined 10 ds * 10 ^ (len + up - down) ≡ q * 10 ^ 38
-    exact lo =
-        let le = under lo in
-        let i : len + up - down + down ≡ len + up = omega arith in
-        let g : 10 ^ (len + up) ≡ 10 ^ (len + up - down) * 10 ^ down = ap (λ (k : ℕ). 10 ^ k) (sym i) ∙ pow-add 10 (len + up - down) down in
-        eq_of_mul-eq-mul_right (10 ^ down) (ten_pos down) (joined 10 ds * 10 ^ (len + up - down)) (q * 10 ^ 38)
-        (products (joined 10 ds) (10 ^ (len + up - down)) (10 ^ down) ∙ ap (λ (x : ℕ). joined 10 ds * x) (sym g) ∙ sym all)
-      where
-        products : (x y z : ℕ) → x * y * z ≡ x * (y * z)
-        products x y z = omega arith
+pub fields_none : (gs : List ℕ) (n : ℕ) → Keeps 10000 10 gs 0 n → IsFields (record { negative = false; groups = gs; top = 0 })
+fields_none gs n h = record { worth = (0, none_group gs n h, (0, 0, refl, omega arith)); sign = λ e. absurd cc; low = omega arith }
 
-pub fields_none : (ds : List ℕ) (n up down q : ℕ) → Keeps ds 0 n → n * 10 ^ up ≡ q * 10 ^ down → IsFields (record { negative = false; digits = ds; top = 0 })
-fields_none ds n up down q h e =
-    let z = none_is ds n up down q h e in
-    record { count = h.count; below = h.below; lead = inl (record { nothing = z.0; plus = refl; no_top = refl }); exact = (0, rw (z.0) (omega arith)); low = omega arith }
-
-pub parts_none : (m : Bool) (ds : List ℕ) (n up down q : ℕ) → Keeps ds 0 n → n * 10 ^ up ≡ q * 10 ^ down → parts_of (record { negative = false; digits = ds; top = 0 }) ≡ signed m q
+pub parts_none : (m : Bool) (gs : List ℕ) (n up down q : ℕ) → Keeps 10000 10 gs 0 n → n * 10000 ^ up ≡ q * 10 * 10000 ^ down → parts_of (record { negative = false; groups = gs; top = 0 }) ≡ signed m q
 unfolding parts_of
-parts_none m ds n up down q h e =
-    let z = none_is ds n up down q h e in
-    ap (λ (x : ℕ). pos x) (size_is ds 0 0 (rw (z.0) (omega arith))) ∙ zeros m ∙ ap (λ (x : ℕ). signed m x) (sym (z.1))
+parts_none m gs n up down q h e =
+    let n0 = none_is 10000 10 (omega arith) gs n h in
+    let z : q * 10 * 10000 ^ down ≡ 0 = sym e ∙ rw n0 (omega arith) in
+    let q0 : q ≡ 0 = (let y = none_of (q * 10) (10000 ^ down) (power_pos 10000 down (omega arith)) z in omega arith) in
+    ap (λ (x : ℕ). pos x) (size_is gs 0 0 (none_group gs n h)) ∙ zeros m ∙ ap (λ (x : ℕ). signed m x) (sym q0)
   where
     zeros : (m : Bool) → pos 0 ≡ signed m 0
     zeros true = refl
     zeros false = refl
 
-pub fields_some : (m : Bool) (ds : List ℕ) (len n up down q : ℕ) → 0 < len → Keeps ds len n → n * 10 ^ up ≡ q * 10 ^ down → len + up ≤ 147455 + down → IsFields (record { negative = m; digits = ds; top = len + up - down })
-fields_some m ds len n up down q p h e le =
-    let z = some_is ds len n up down q p h e in
-    record { count = h.count; below = h.below; lead = inr z.least; exact = (q, z.exact); low = omega arith }
+pub fields_some : (m : Bool) (gs : List ℕ) (len n up down q : ℕ) → 0 < len → Keeps 10000 10 gs len n → HasNarrowDigits n → n * 10000 ^ up ≡ q * 10 * 10000 ^ down → len + up ≤ 36864 + down
+    → IsFields (record { negative = m; groups = gs; top = len + up - down })
+fields_some m gs len n up down q p h narrow e le = record {
+  worth = (q, moved 10000 10 (omega arith) gs len n up down (q * 10) p h e, narrow_moved n q up down e narrow);
+  sign = λ _. (let u = under 10000 10 (omega arith) gs len n up down (q * 10) p h e in omega arith);
+  low = omega arith;
+}
 
-pub parts_some : (m : Bool) (ds : List ℕ) (len n up down q : ℕ) → 0 < len → Keeps ds len n → n * 10 ^ up ≡ q * 10 ^ down → parts_of (record { negative = m; digits = ds; top = len + up - down }) ≡ signed m q
+pub parts_some : (m : Bool) (gs : List ℕ) (len n up down q : ℕ) → 0 < len → Keeps 10000 10 gs len n → n * 10000 ^ up ≡ q * 10 * 10000 ^ down
+    → parts_of (record { negative = m; groups = gs; top = len + up - down }) ≡ signed m q
 unfolding parts_of
-parts_some m ds len n up down q p h e = ap (λ (x : ℕ). signed m x) (size_is ds (len + up - down) q (some_is ds len n up down q p h e).exact)
+parts_some m gs len n up down q p h e = ap (λ (x : ℕ). signed m x) (size_is gs (len + up - down) q (moved 10000 10 (omega arith) gs len n up down (q * 10) p h e))

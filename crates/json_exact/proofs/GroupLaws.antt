@@ -39,26 +39,32 @@ after_zero b ds = after_is b 0 ds ∙ none (b ^ length ds) (joined b ds)
     none : (u j : ℕ) → 0 * u + j ≡ j
     none u j = omega arith
 
+-- 4096 groups are one digit more than the parts have
+pub whole_groups : 10000 ^ 4096 ≡ 10 ^ 16383 * 10
+whole_groups = fours 4096 ∙ pow-add 10 16383 1
+
+-- what is worth q parts is q and a 0, moved by groups
 pub worth : (weight : ℤ) (bytes : List ℕ) (lift q : ℕ) → AreGroups bytes → lift ≡ lifted weight → AreWorth weight (groups_of bytes) q
-    → joined 10000 (groups_of bytes) * 10 ^ (16383 + 4 * (lift + 1)) ≡ q * 10 ^ (4 * (length bytes / 2 + 2 ^ 15))
+    → joined 10000 (groups_of bytes) * 10000 ^ (lift + 1 + 4096) ≡ q * 10 * 10000 ^ (length bytes / 2 + 2 ^ 15)
 unfolding parts
 worth weight bytes lift q h e w =
-    ap (λ (x : ℕ). joined 10000 (groups_of bytes) * x) (pow-add 10 16383 (4 * (lift + 1)))
-    ∙ products (joined 10000 (groups_of bytes)) (10 ^ 16383) (10 ^ (4 * (lift + 1)))
-    ∙ ap (λ (x : ℕ). 10 ^ 16383 * (joined 10000 (groups_of bytes) * x)) (sym (fours (lift + 1)))
-    ∙ ap (λ (k : ℕ). 10 ^ 16383 * (joined 10000 (groups_of bytes) * 10000 ^ (k + 1))) e
-    ∙ sym w
-    ∙ ap (λ (x : ℕ). q * x) (fours (length (groups_of bytes) + 2 ^ 15))
-    ∙ ap (λ (k : ℕ). q * 10 ^ (4 * (k + 2 ^ 15))) (many bytes h)
+    ap (λ (x : ℕ). joined 10000 (groups_of bytes) * x) (pow-add 10000 (lift + 1) 4096 ∙ ap (λ (x : ℕ). 10000 ^ (lift + 1) * x) whole_groups)
+    ∙ products (joined 10000 (groups_of bytes)) (10000 ^ (lift + 1)) (10 ^ 16383)
+    ∙ ap (λ (k : ℕ). 10 ^ 16383 * (joined 10000 (groups_of bytes) * 10000 ^ (k + 1)) * 10) e
+    ∙ ap (λ (x : ℕ). x * 10) (sym w)
+    ∙ turned q (10000 ^ (length (groups_of bytes) + 2 ^ 15))
+    ∙ ap (λ (k : ℕ). q * 10 * 10000 ^ (k + 2 ^ 15)) (many bytes h)
   where
-    products : (n p x : ℕ) → n * (p * x) ≡ p * (n * x)
-    products n p x = omega arith
+    products : (n x p : ℕ) → n * (x * (p * 10)) ≡ p * (n * x) * 10
+    products n x p = omega arith
 
-pub not_narrow : (ds : List ℕ) (len n : ℕ) (w : Bool) → Pushed ds len w n → w ≡ true → HasNarrowDigits n → ⊥
-not_narrow ds len n false (kept h) e = absurd cc
+    turned : (q p : ℕ) → q * p * 10 ≡ q * 10 * p
+    turned q p = omega arith
+
+pub not_narrow : {b more : ℕ} (ds : List ℕ) (len n : ℕ) (w : Bool) → Pushed b more ds len w n → w ≡ true → HasNarrowDigits n → ⊥
+not_narrow ds len n false (kept h rest) e = absurd cc
 not_narrow ds len n true (lost h) e = h.wide
 
-pub even : (bytes : List ℕ) → AreGroups bytes → length bytes ≡ 2 * (length bytes / 2)
-even [] h = refl
-even (low ∷ []) h = absurd h
-even (low ∷ high ∷ bytes) h = let m = even bytes h.1 in omega arith
+pub not_wide : {b more : ℕ} (ds : List ℕ) (len n : ℕ) (w : Bool) → Pushed b more ds len w n → HasNarrowDigits n → w ≡ false
+not_wide ds len n false h narrow = refl
+not_wide ds len n true (lost h) narrow = absurd (h.wide narrow)

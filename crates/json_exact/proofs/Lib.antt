@@ -1,6 +1,10 @@
 pub mod DigitLaws
 pub mod SignLaws
 pub mod NarrowLaws
+pub mod NarrowGroupLaws
+pub mod RegroupLaws
+pub mod GroupPlaceLaws
+pub mod PartsLaws
 pub mod PushLaws
 pub mod FieldLaws
 pub mod GroupLaws

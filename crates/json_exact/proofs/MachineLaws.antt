@@ -5,14 +5,11 @@ use Rattle.json_exact.specs.SignificantDigits.{Pushed}
 use Rattle.json_exact.proofs.GroupLaws.{not_narrow}
 
 -- 38 digits are enough for a number below 10 ^ 38
-pub few_kept : (ds : List ℕ) (len n : ℕ) (w : Bool) → n < 10 ^ 38 → Pushed ds len w n → w ≡ false
+pub few_kept : (ds : List ℕ) (len n : ℕ) (w : Bool) → n < 10 ^ 38 → Pushed 10 37 ds len w n → w ≡ false
 few_kept ds len n false lt h = refl
 few_kept ds len n true lt h = absurd (not_narrow ds len n true h refl (0, n, omega arith, omega arith))
 
--- moved up by all fraction digits and down by none, n is n times the parts that make one
-pub all_up : (n : ℕ) → n * 10 ^ 16383 ≡ n * parts * 10 ^ 0
+-- moved up by all fraction digits, n is n times the parts that make one
+pub all_up : (n : ℕ) → n * 10 ^ 16383 ≡ n * parts
 unfolding parts
-all_up n = one (n * 10 ^ 16383)
-  where
-    one : (x : ℕ) → x ≡ x * 1
-    one x = omega arith
+all_up n = refl

@@ -6,8 +6,9 @@ use Rattle.std.proofs.Math.Nat.{pow-suc, mul-div_cancel, div-div-eq-div-mul, mul
 use Rattle.std.proofs.lemmas.Nat.{div-add-mod', pow-add}
 use Rattle.json_model.specs.Decimal.{IsWhole}
 use Rattle.json_exact.specs.Exact.{parts, exactly, signed}
-use Rattle.json_exact.specs.Digits.{count}
-use Rattle.json_exact.specs.DecimalInverseLaws.{ten_pos, count_step}
+use Rattle.json_exact.specs.Digits.{count_of, count}
+use Rattle.json_exact.specs.LeadingDigitsLaws.{count_step}
+use Rattle.json_exact.specs.DecimalInverseLaws.{ten_pos}
 use Rattle.json_exact.specs.NumberInverseLaws.{signed_times, sign_abs}
 use Rattle.json_exact.proofs.CountLaws.{count_cut}
 use Rattle.json_exact.proofs.DigitLaws.{ten_mono}
@@ -15,9 +16,9 @@ use Rattle.json_exact.proofs.SignLaws.{abs_times}
 
 -- a number without digits is 0
 none_counted : (n : ℕ) → count n ≡ 0 → n ≡ 0
-unfolding count
+unfolding count count_of
 none_counted zero h = refl
-none_counted (suc n) h = absurd (let e = count_step n (suc n) (omega arith) in omega arith)
+none_counted (suc n) h = absurd (let e = count_step 10 n (suc n) (omega arith) in omega arith)
 
 -- a number is below the least one with more digits
 pub below_count : (k n : ℕ) → count n ≤ k → n < 10 ^ k
@@ -44,7 +45,7 @@ one_more n (suc k) m digit lt e d =
     s ∙ ap (λ (j : ℕ). n / 10 ^ j) (sym i)
 
 zero_counted : count 0 ≡ 0
-unfolding count
+unfolding count count_of
 zero_counted = refl
 
 -- 20 digits are above the machine's integers, so more of them do not fit

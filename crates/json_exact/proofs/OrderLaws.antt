@@ -1,5 +1,5 @@
 -- Decimals are ordered as their fields are.
-use Rattle.std.proofs.Common.{◌≡◌, ℕ, suc, ◌+◌, ◌*◌, ◌^◌, ◌<◌, ◌≤◌, Bool, true, false, List, [], ◌∷◌, length, refl, sym, ap, subst, ◌∙◌, arith, inl, inr, ℤ, pos, negsuc, nat_abs, lt→ltb}
+use Rattle.std.proofs.Common.{◌≡◌, ℕ, suc, ◌+◌, ◌-◌, ◌*◌, ◌^◌, ◌<◌, ◌≤◌, true, false, List, [], ◌∷◌, length, refl, sym, ap, subst, ◌∙◌, arith, ℤ, pos, negsuc, nat_abs, lt→ltb}
 use Rattle.std.specs.Prelude.{◌<ℤ◌, int_lt}
 use Rattle.std.specs.Ordering.{MatchOrdering, nat_cmp, int_cmp, ordering_then}
 use Rattle.std.specs.declared.cmp.Ordering.{Ordering}
@@ -7,15 +7,16 @@ use Rattle.std.specs.declared.cmp.Ordering.TheVariants.{Less, Equal, Greater}
 use Rattle.std.specs.Cmp.{ranks, nat_cmp_is, int_cmp_is}
 use Rattle.std.specs.Cmp.Lexicographic.{slice_cmp}
 use Rattle.std.proofs.lemmas.Cmp.{ranked}
-use Rattle.std.proofs.Math.Nat.{pow-suc, mul-lt-mul_of_pos_right, mul-le-mul_right}
+use Rattle.std.proofs.Math.Nat.{mul-lt-mul_of_pos_right, mul-le-mul_right}
 use Rattle.std.proofs.lemmas.Bool.{le-ltb}
-use Rattle.json_exact.specs.Exact.{signed}
 use Rattle.json_exact.specs.Digits.{joined, AllBelow}
 use Rattle.json_exact.specs.DecimalFields.{parts_of, IsFields}
-use Rattle.json_exact.specs.DecimalInverseLaws.{ten_pos, joined_below, abs_signed, sign_signed}
+use Rattle.json_exact.specs.LeadingDigits.{Keeps}
+use Rattle.json_exact.specs.LeadingDigitsLaws.{power_pos, joined_below, below_len, from_len}
+use Rattle.json_exact.specs.DecimalInverseLaws.{some_parts, sign_back}
 use Rattle.json_exact.specs.declared.decimal.Decimal.TheInside.{Inside}
-use Rattle.json_exact.proofs.DigitLaws.{ten_mono}
-use Rattle.json_exact.proofs.WholeLaws.{Sized, sized, high}
+use Rattle.json_exact.proofs.DigitLaws.{power_mono}
+use Rattle.json_exact.proofs.WholeLaws.{Sized, sized}
 
 -- o is the order of x and y
 abbrev Orders : Ordering → ℕ → ℕ → Type 0
@@ -44,60 +45,48 @@ digits_order b (x ∷ xs) (y ∷ ys) h g e =
     subst (λ (n : ℕ). Orders (slice_cmp nat_cmp (x ∷ xs) (y ∷ ys)) (joined b (x ∷ xs)) (y * b ^ n + joined b ys)) l
     (high_then_low (nat_cmp x y) (slice_cmp nat_cmp xs ys) x y (joined b xs) (joined b ys) (b ^ length xs) (joined_below b xs h.1) small (ranks x y) (digits_order b xs ys h.1 g.1 l))
 
--- the digits of numbers with as many digits are in the order of the numbers
-scaled : (o : Ordering) (j k q r p : ℕ) → 0 < p → j * p ≡ q * 10 ^ 38 → k * p ≡ r * 10 ^ 38 → Orders o j k → Orders o q r
+-- the groups of numbers with as many groups are in the order of the numbers
+scaled : (o : Ordering) (j k q r p : ℕ) → 0 < p → q * 10 * 10000 ^ 11 ≡ j * p → r * 10 * 10000 ^ 11 ≡ k * p → Orders o j k → Orders o q r
 scaled Less j k q r p some e f h = let m : j * p < k * p = mul-lt-mul_of_pos_right h some in omega arith
 scaled Equal j k q r p some e f h = let m : j * p ≡ k * p = ap (λ (n : ℕ). n * p) h in omega arith
 scaled Greater j k q r p some e f h = let m : k * p < j * p = mul-lt-mul_of_pos_right h some in omega arith
 
--- a number with so many digits is no smaller than the least one
-least : (a : Inside) (q : ℕ) → IsFields a → Sized a.digits a.top q → 0 < a.top → 10 ^ a.top ≤ q * 10
-least a q h s some = elim h.lead [
-  | inl z ↦ absurd (let t = z.no_top in omega arith)
-  | inr z ↦ let m : 10 ^ 37 * 10 ^ a.top ≤ joined 10 a.digits * 10 ^ a.top = mul-le-mul_right (10 ^ a.top) z in let e = s.size in omega arith
-]
-
--- a number with more digits is larger
-longer : (a b : Inside) (q r : ℕ) → IsFields b → Sized a.digits a.top q → Sized b.digits b.top r → a.top < b.top → q < r
-longer a b q r h s t lt =
-    let below = high a.digits a.top q s in
-    let least_is = least b r h t (omega arith) in
-    let more = ten_mono (suc a.top) b.top lt in
-    let e = pow-suc 10 a.top in
+-- a number with more groups is larger
+longer : (a b : Inside) (x y : ℤ) (q r : ℕ) → Sized a x q → Sized b y r → a.top < b.top → q < r
+longer a b x y q r s t lt =
+    let below = below_len 10000 10 (omega arith) a.groups a.top (q * 10) s.keeps in
+    let least = from_len 10000 10 (omega arith) b.groups (b.top - 1) (r * 10) (subst (λ (k : ℕ). Keeps 10000 10 b.groups k (r * 10)) (let i : b.top ≡ suc (b.top - 1) = omega arith in i) t.keeps) in
+    let more = power_mono 10000 a.top (b.top - 1) (omega arith) (omega arith) in
     omega arith
 
--- the count of digits decides, then the digits
-pub magnitudes : (a b : Inside) (x y : ℤ) → IsFields a → parts_of a ≡ x → IsFields b → parts_of b ≡ y
-    → ordering_then (nat_cmp a.top b.top) (slice_cmp nat_cmp a.digits b.digits) ≡ nat_cmp (nat_abs x) (nat_abs y)
-magnitudes a b x y h e g f =
-    let (q, s, v) = sized a x h e in
-    let (r, t, w) = sized b y g f in
-    let m : nat_abs x ≡ q = ap nat_abs v ∙ abs_signed a.negative q in
-    let n : nat_abs y ≡ r = ap nat_abs w ∙ abs_signed b.negative r in
-    nat_cmp_is q r _ (go (nat_cmp a.top b.top) q r s t (ranks a.top b.top)) ∙ ap (λ (z : ℕ). nat_cmp z r) (sym m) ∙ ap (λ (z : ℕ). nat_cmp (nat_abs x) z) (sym n)
+-- the count of groups decides
+pub magnitudes_by_top : (a b : Inside) (x y : ℤ) → IsFields a → parts_of a ≡ x → IsFields b → parts_of b ≡ y → (a.top ≡ b.top → ⊥) → nat_cmp a.top b.top ≡ nat_cmp (nat_abs x) (nat_abs y)
+magnitudes_by_top a b x y h e g f ne =
+    let (q, s) = sized a x h e in
+    let (r, t) = sized b y g f in
+    nat_cmp_is q r _ (go (nat_cmp a.top b.top) q r s t (ranks a.top b.top)) ∙ ap (λ (z : ℕ). nat_cmp z r) (sym s.abs) ∙ ap (λ (z : ℕ). nat_cmp (nat_abs x) z) (sym t.abs)
   where
-    go : (o : Ordering) (q r : ℕ) → Sized a.digits a.top q → Sized b.digits b.top r → Orders o a.top b.top → Orders (ordering_then o (slice_cmp nat_cmp a.digits b.digits)) q r
-    go Less q r s t lt = longer a b q r g s t lt
-    go Greater q r s t lt = longer b a r q h t s lt
-    go Equal q r s t same = scaled (slice_cmp nat_cmp a.digits b.digits) (joined 10 a.digits) (joined 10 b.digits) q r (10 ^ a.top) (ten_pos a.top) s.size
-        (ap (λ (k : ℕ). joined 10 b.digits * 10 ^ k) same ∙ t.size)
-        (digits_order 10 a.digits b.digits s.below t.below (s.count ∙ sym t.count))
+    go : (o : Ordering) (q r : ℕ) → Sized a x q → Sized b y r → Orders o a.top b.top → Orders o q r
+    go Less q r s t lt = longer a b x y q r s t lt
+    go Greater q r s t lt = longer b a y x r q t s lt
+    go Equal q r s t same = absurd (ne same)
+
+-- of as many groups, the first that differ decide
+pub magnitudes_by_groups : (a b : Inside) (x y : ℤ) → IsFields a → parts_of a ≡ x → IsFields b → parts_of b ≡ y → a.top ≡ b.top → slice_cmp nat_cmp a.groups b.groups ≡ nat_cmp (nat_abs x) (nat_abs y)
+magnitudes_by_groups a b x y h e g f same =
+    let (q, s) = sized a x h e in
+    let (r, t) = sized b y g f in
+    nat_cmp_is q r _
+    (scaled (slice_cmp nat_cmp a.groups b.groups) (joined 10000 a.groups) (joined 10000 b.groups) q r (10000 ^ a.top) (power_pos 10000 a.top (omega arith)) s.keeps.size
+    (t.keeps.size ∙ ap (λ (k : ℕ). joined 10000 b.groups * 10000 ^ k) (sym same))
+    (digits_order 10000 a.groups b.groups s.keeps.below t.keeps.below (s.keeps.count ∙ sym t.keeps.count)))
+    ∙ ap (λ (z : ℕ). nat_cmp z r) (sym s.abs) ∙ ap (λ (z : ℕ). nat_cmp (nat_abs x) z) (sym t.abs)
 
 -- the field tells whether the value is below 0
 pub sign_is : (a : Inside) (x : ℤ) → IsFields a → parts_of a ≡ x → int_lt x (pos 0) ≡ a.negative
 sign_is a x h e =
-    let (q, s, f) = sized a x h e in
-    ap (λ (z : ℤ). int_lt z (pos 0)) f ∙ elim h.lead [
-      | inl z ↦ ap (λ (m : Bool). int_lt (signed m q) (pos 0)) z.plus ∙ le-ltb q 0 (omega arith) ∙ sym z.plus
-      | inr z ↦ sign_signed a.negative q (some q z s)
-    ]
-  where
-    some : (q : ℕ) → 10 ^ 37 ≤ joined 10 a.digits → Sized a.digits a.top q → 0 < q
-    some q z s =
-        let m : 10 ^ 37 * 10 ^ a.top ≤ joined 10 a.digits * 10 ^ a.top = mul-le-mul_right (10 ^ a.top) z in
-        let p = ten_pos a.top in
-        let e = s.size in
-        omega arith
+    let (q, s) = sized a x h e in
+    ap (λ (z : ℤ). int_lt z (pos 0)) s.value ∙ sign_back a.negative q (λ m. some_parts a.groups a.top q s.keeps (h.sign m))
 
 -- values that are not below 0 are in the order of their magnitudes
 pub both_plus : (x y : ℤ) (o : Ordering) → int_lt x (pos 0) ≡ false → int_lt y (pos 0) ≡ false → o ≡ nat_cmp (nat_abs x) (nat_abs y) → o ≡ int_cmp x y

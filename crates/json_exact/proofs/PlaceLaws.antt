@@ -7,30 +7,30 @@ use Rattle.json_model.specs.Decimal.{HasNarrowDigits}
 use Rattle.json_exact.specs.Exact.{IsWorth, signed, parts}
 use Rattle.json_exact.specs.Digits.{joined}
 use Rattle.json_exact.specs.DecimalInverseLaws.{ten_pos, abs_signed}
+use Rattle.json_exact.specs.LeadingDigitsLaws.{joined_small}
 use Rattle.json_exact.specs.NumberInverseLaws.{signed_times}
-use Rattle.json_exact.specs.SignificantDigits.{Keeps}
+use Rattle.json_exact.specs.LeadingDigits.{Keeps}
 use Rattle.json_exact.specs.Reading.{capped}
 use Rattle.json_exact.specs.LiteralParts.{IsRead, IsFault}
 use Rattle.json_exact.specs.declared.number_error.NumberError.TheVariants.{OutOfRange}
 use Rattle.json_exact.proofs.DigitLaws.{ten_mono}
-use Rattle.json_exact.proofs.FieldLaws.{joined_small}
 use Rattle.json_exact.proofs.NarrowLaws.{narrow_more, narrow_back}
 
 -- a number that is kept is narrow
-kept_narrow : (ds : List ℕ) (len n : ℕ) → Keeps ds len n → HasNarrowDigits n
+kept_narrow : (ds : List ℕ) (len n : ℕ) → Keeps 10 37 ds len n → HasNarrowDigits n
 kept_narrow ds len n h =
-    let below : joined 10 ds * 10 ^ len < 10 ^ 38 * 10 ^ len = mul-lt-mul_of_pos_right (joined_small ds len n h) (ten_pos len) in
+    let below : joined 10 ds * 10 ^ len < 10 ^ 38 * 10 ^ len = mul-lt-mul_of_pos_right (joined_small 10 37 (omega arith) ds len n h) (ten_pos len) in
     narrow_back n 38 (len, joined 10 ds, h.size, subst (λ (x : ℕ). n * 10 ^ 38 < x) (sym (pow-add 10 38 len)) (subst (λ (x : ℕ). x < 10 ^ 38 * 10 ^ len) (sym h.size) below))
 
 -- a number has no more digits than are counted
-pub below_top : (ds : List ℕ) (len n : ℕ) → Keeps ds len n → n < 10 ^ len
+pub below_top : (ds : List ℕ) (len n : ℕ) → Keeps 10 37 ds len n → n < 10 ^ len
 below_top ds len n h =
     let s = h.size in
-    let b : joined 10 ds * 10 ^ len < 10 ^ 38 * 10 ^ len = mul-lt-mul_of_pos_right (joined_small ds len n h) (ten_pos len) in
+    let b : joined 10 ds * 10 ^ len < 10 ^ 38 * 10 ^ len = mul-lt-mul_of_pos_right (joined_small 10 37 (omega arith) ds len n h) (ten_pos len) in
     omega arith
 
 -- and no fewer
-pub from_top : (ds : List ℕ) (len n : ℕ) → 0 < len → Keeps ds len n → 10 ^ len ≤ n * 10
+pub from_top : (ds : List ℕ) (len n : ℕ) → 0 < len → Keeps 10 37 ds len n → 10 ^ len ≤ n * 10
 from_top ds len n some h = elim h.lead [
   | inl z ↦ absurd (let p = z.0 in omega arith)
   | inr z ↦ let s = h.size in let b : 10 ^ 37 * 10 ^ len ≤ joined 10 ds * 10 ^ len = mul-le-mul_right (10 ^ len) (z.1) in omega arith
@@ -67,11 +67,11 @@ worth m n up f le =
 abs_at : (m : Bool) (n up k : ℕ) → n * 10 ^ up < 10 ^ k → nat_abs (signed m (n * 10 ^ up)) < 10 ^ k
 abs_at m n up k lt = subst (λ (x : ℕ). x < 10 ^ k) (sym (abs_signed m (n * 10 ^ up))) lt
 
-narrow_at : (m : Bool) (ds : List ℕ) (len n up : ℕ) → Keeps ds len n → HasNarrowDigits (nat_abs (signed m (n * 10 ^ up)))
+narrow_at : (m : Bool) (ds : List ℕ) (len n up : ℕ) → Keeps 10 37 ds len n → HasNarrowDigits (nat_abs (signed m (n * 10 ^ up)))
 narrow_at m ds len n up h = subst HasNarrowDigits (sym (abs_signed m (n * 10 ^ up))) (narrow_more n up (kept_narrow ds len n h))
 
 -- a number that is in range is read
-pub read_some : (m : Bool) (ds : List ℕ) (len n up f : ℕ) (d : ℤ) (p : ℕ) → Keeps ds len n → f ≤ 16383 → len + up ≤ 131072 + f → d ≡ signed m (n * 10 ^ (up + (16383 - f))) → p ≡ f
+pub read_some : (m : Bool) (ds : List ℕ) (len n up f : ℕ) (d : ℤ) (p : ℕ) → Keeps 10 37 ds len n → f ≤ 16383 → len + up ≤ 131072 + f → d ≡ signed m (n * 10 ^ (up + (16383 - f))) → p ≡ f
     → IsRead d p (record { digits = signed m (n * 10 ^ up); places = f })
 read_some m ds len n up f d p h le fits e g = record {
   narrow = narrow_at m ds len n up h;
@@ -81,7 +81,7 @@ read_some m ds len n up f d p h le fits e g = record {
 }
 
 -- 0 is read, whatever its exponent
-pub read_none : (m : Bool) (ds : List ℕ) (n up f : ℕ) (d : ℤ) (p : ℕ) → Keeps ds 0 n → f ≤ 16383 → d ≡ signed m 0 → p ≡ f
+pub read_none : (m : Bool) (ds : List ℕ) (n up f : ℕ) (d : ℤ) (p : ℕ) → Keeps 10 37 ds 0 n → f ≤ 16383 → d ≡ signed m 0 → p ≡ f
     → IsRead d p (record { digits = signed m (n * 10 ^ up); places = f })
 read_none m ds n up f d p h le e g =
     let n0 : n ≡ 0 = let b = below_top ds 0 n h in omega arith in
@@ -95,11 +95,11 @@ read_none m ds n up f d p h le e g =
     }
 
 -- too many fraction digits are out of range
-pub fault_places : (m : Bool) (ds : List ℕ) (len n up f : ℕ) → Keeps ds len n → 16383 < f → IsFault OutOfRange (record { digits = signed m (n * 10 ^ up); places = f })
+pub fault_places : (m : Bool) (ds : List ℕ) (len n up f : ℕ) → Keeps 10 37 ds len n → 16383 < f → IsFault OutOfRange (record { digits = signed m (n * 10 ^ up); places = f })
 fault_places m ds len n up f h lt = (narrow_at m ds len n up h, λ r. let l = r.1 in omega arith)
 
 -- too large a number is out of range
-pub fault_high : (m : Bool) (ds : List ℕ) (len n up f : ℕ) → 0 < len → Keeps ds len n → 131072 + f < len + up → IsFault OutOfRange (record { digits = signed m (n * 10 ^ up); places = f })
+pub fault_high : (m : Bool) (ds : List ℕ) (len n up f : ℕ) → 0 < len → Keeps 10 37 ds len n → 131072 + f < len + up → IsFault OutOfRange (record { digits = signed m (n * 10 ^ up); places = f })
 fault_high m ds len n up f some h lt = (
   narrow_at m ds len n up h,
   λ r.

@@ -1,14 +1,16 @@
--- What a push makes of the digits that are held.
+-- What a push makes of the digits that are held, in any base.
 use Rattle.std.proofs.Common.{◌≡◌, ℕ, zero, suc, ◌+◌, ◌-◌, ◌*◌, ◌^◌, ◌<◌, ◌≤◌, ◌⊎◌, Bool, true, false, List, [], ◌∷◌, length, get_or, set, refl, sym, ap, ◌∙◌, arith, inl, inr}
+use Rattle.std.specs.Prelude.{replicate}
 use Rattle.std.proofs.Math.Nat.{pow-suc}
-use Rattle.std.proofs.lemmas.Nat.{pow-add, mul-le}
+use Rattle.std.proofs.lemmas.Nat.{pow-add}
 use Rattle.std.proofs.Common.{get_or-set_other}
 use Rattle.std.proofs.Math.ListN.{length-set}
 use Rattle.json_model.specs.Decimal.{HasNarrowDigits}
 use Rattle.json_exact.specs.Digits.{joined, AllBelow}
-use Rattle.json_exact.proofs.DigitLaws.{ten_mono, above_none}
-use Rattle.json_exact.proofs.NarrowLaws.{narrow_less}
+use Rattle.json_exact.specs.LeadingDigits.{Keeps}
+use Rattle.json_exact.specs.LeadingDigitsLaws.{from_len}
 use Rattle.json_exact.specs.SignificantDigits.{Pushed, kept, lost}
+use Rattle.json_exact.proofs.DigitLaws.{power_mono, above_none}
 
 below_set : (b d : ℕ) (ds : List ℕ) (i : ℕ) → AllBelow b ds → d < b → AllBelow b (set ds i d)
 below_set b d [] i h lt = tt
@@ -25,46 +27,95 @@ joined_set b d (e ∷ ds) (suc i) r len z =
     let h = joined_set b d ds i r l z in
     rw (length-set ds i d, h) (omega arith)
 
-pub put : (ds : List ℕ) (len : ℕ) (w : Bool) (d n : ℕ) → len < 38 → d < 10 → (len ≡ 0 → d ≡ 0 → ⊥) → Pushed ds len w n → Pushed (set ds len d) (len + 1) w (n * 10 + d)
-put ds len false d n lt small some (kept h) =
-    let r = 37 - len in
-    let i : length ds ≡ len + suc r = let c = h.count in omega arith in
-    let j : joined 10 (set ds len d) ≡ joined 10 ds + d * 10 ^ r = joined_set 10 d ds len r i (h.rest len (omega arith)) in
-    let p : 10 ^ r * 10 ^ (len + 1) ≡ 10 ^ 38 = (let e : r + (len + 1) ≡ 38 = omega arith in sym (pow-add 10 r (len + 1)) ∙ ap (λ (k : ℕ). 10 ^ k) e) in
-    let q : 10 ^ (len + 1) ≡ 10 ^ len * 10 = pow-add 10 len 1 in
-    kept (record {
-      count = length-set ds len d ∙ h.count;
-      below = below_set 10 d ds len h.below small;
-      size = ap (λ (x : ℕ). (n * 10 + d) * x) refl ∙ step n (joined 10 ds) d (10 ^ 38) (10 ^ len) (10 ^ (len + 1)) (10 ^ r) h.size q p ∙ ap (λ (x : ℕ). x * 10 ^ (len + 1)) (sym j);
-      lead = inr (omega arith, rw j (leads h.lead));
-      rest = λ k le. (let ne : (k ≡ len → ⊥) = λ e. absurd (omega arith) in rw get_or-set_other (h.rest k (omega arith)));
-    })
-  where
-    step : (n j d a b c r : ℕ) → n * a ≡ j * b → c ≡ b * 10 → r * c ≡ a → (n * 10 + d) * a ≡ (j + d * r) * c
-    step n j d a b c r e f g = let x : j * c ≡ j * (b * 10) = ap (λ (x : ℕ). j * x) f in let y : d * (r * c) ≡ d * a = ap (λ (x : ℕ). d * x) g in omega arith
+module _ (b more : ℕ) (two : 1 < b) where
+  -- there is a slot for the digit
+  pub put : (ds : List ℕ) (len : ℕ) (w : Bool) (d n : ℕ) → len < suc more → d < b → (len ≡ 0 → d ≡ 0 → ⊥)
+      → Pushed b more ds len w n → Pushed b more (set ds len d) (len + 1) w (n * b + d)
+  put ds len false d n lt small some (kept h rest) =
+      let r = more - len in
+      let i : length ds ≡ len + suc r = let c = h.count in omega arith in
+      let j : joined b (set ds len d) ≡ joined b ds + d * b ^ r = joined_set b d ds len r i (rest len (omega arith)) in
+      let p : b ^ r * b ^ (len + 1) ≡ b ^ suc more = (let e : r + (len + 1) ≡ suc more = omega arith in sym (pow-add b r (len + 1)) ∙ ap (λ (k : ℕ). b ^ k) e) in
+      let q : b ^ (len + 1) ≡ b ^ len * b = ap (λ (k : ℕ). b ^ k) (let e : len + 1 ≡ suc len = omega arith in e) ∙ pow-suc b len in
+      kept
+      (record {
+        count = length-set ds len d ∙ h.count;
+        below = below_set b d ds len h.below small;
+        size = step n (joined b ds) d (b ^ suc more) (b ^ len) (b ^ (len + 1)) (b ^ r) h.size q p ∙ ap (λ (x : ℕ). x * b ^ (len + 1)) (sym j);
+        lead = inr (omega arith, rw j (leads h.lead));
+      })
+      (λ k le. (let ne : (k ≡ len → ⊥) = λ e. absurd (omega arith) in rw get_or-set_other (rest k (omega arith))))
+    where
+      step : (n j d a t c r : ℕ) → n * a ≡ j * t → c ≡ t * b → r * c ≡ a → (n * b + d) * a ≡ (j + d * r) * c
+      step n j d a t c r e f g =
+          let x : j * c ≡ j * (t * b) = ap (λ (x : ℕ). j * x) f in
+          let y : d * (r * c) ≡ d * a = ap (λ (x : ℕ). d * x) g in
+          let z : n * a * b ≡ j * t * b = ap (λ (x : ℕ). x * b) e in
+          omega arith
 
-    leads : ((len ≡ 0) × (joined 10 ds ≡ 0)) ⊎ ((0 < len) × (10 ^ 37 ≤ joined 10 ds)) → 10 ^ 37 ≤ joined 10 ds + d * 10 ^ (37 - len)
-    leads (inl z) = let p : 0 < d = above_none d (some z.0) in let q : 10 ^ (37 - len) ≡ 10 ^ 37 = ap (λ (k : ℕ). 10 ^ (37 - k)) z.0 in rw q (omega arith)
-    leads (inr z) = let p = z.1 in omega arith
-put ds len true d n lt small some (lost h) = let m = h.many in absurd (omega arith)
+      at_least : (d u : ℕ) → 0 < d → u ≤ d * u
+      at_least zero u h = absurd (omega arith)
+      at_least (suc d) u h = omega arith
 
-pub more : (ds : List ℕ) (len : ℕ) (w : Bool) (n : ℕ) → 38 ≤ len → Pushed ds len w n → Pushed ds (len + 1) w (n * 10 + 0)
-more ds len false n le (kept h) = kept (record { count = h.count; below = h.below; size = (let q : 10 ^ (len + 1) ≡ 10 ^ len * 10 = pow-add 10 len 1 in step n (joined 10 ds) (10 ^ 38) (10 ^ len) (10 ^ (len + 1)) h.size q); lead = (elim h.lead [ inl z ↦ inl (absurd (let p = z.0 in omega arith)) | inr z ↦ inr (omega arith, z.1) ]); rest = λ k l. h.rest k (omega arith) })
-  where
-    step : (n j a b c : ℕ) → n * a ≡ j * b → c ≡ b * 10 → (n * 10 + 0) * a ≡ j * c
-    step n j a b c e f = rw f (omega arith)
-more ds len true n le (lost h) = lost (record { many = omega (arith, h.many); wide = λ a. h.wide (narrow_less n 0 (omega arith) a) })
+      leads : ((len ≡ 0) × (joined b ds ≡ 0)) ⊎ ((0 < len) × (b ^ more ≤ joined b ds)) → b ^ more ≤ joined b ds + d * b ^ (more - len)
+      leads (inl z) =
+          let q : b ^ (more - len) ≡ b ^ more = ap (λ (k : ℕ). b ^ k) (let k : more - len ≡ more = let y = z.0 in omega arith in k) in
+          let a = at_least d (b ^ (more - len)) (above_none d (some z.0)) in
+          omega arith
+      leads (inr z) = let p = z.1 in omega arith
+  put ds len true d n lt small some (lost h) = let m = h.many in absurd (omega arith)
 
-pub over : (ds : List ℕ) (len : ℕ) (w : Bool) (d n : ℕ) → 38 ≤ len → d < 10 → (d ≡ 0 → ⊥) → Pushed ds len w n → Pushed ds (len + 1) true (n * 10 + d)
-over ds len false d n le small some (kept h) = lost (record { many = omega arith; wide = too })
-  where
-    too : HasNarrowDigits (n * 10 + d) → ⊥
-    too (zero, k, e, lt) = elim h.lead [
-      | inl z ↦ absurd (let p = z.0 in omega arith)
-      | inr z ↦ let big : 10 ^ 37 * 10 ^ 38 ≤ joined 10 ds * 10 ^ len = mul-le (10 ^ 37) (10 ^ 38) (joined 10 ds) (10 ^ len) z.1 (ten_mono 38 len le) in let s = h.size in some (omega arith)
-    ]
-    too (suc b, k, e, lt) = let f = pow-suc 10 b in let g : k * 10 ^ suc b ≡ k * 10 ^ b * 10 = rw f (omega arith) in some (omega arith)
-over ds len true d n le small some (lost h) = lost (record { many = omega (arith, h.many); wide = λ a. h.wide (narrow_less n d small a) })
+  -- a 0 behind the slots is known without one
+  pub put_zero : (ds : List ℕ) (len : ℕ) (w : Bool) (n : ℕ) → more < len → (HasNarrowDigits (n * b + 0) → HasNarrowDigits n) → Pushed b more ds len w n → Pushed b more ds (len + 1) w (n * b + 0)
+  put_zero ds len false n le less (kept h rest) =
+      let q : b ^ (len + 1) ≡ b ^ len * b = ap (λ (k : ℕ). b ^ k) (let e : len + 1 ≡ suc len = omega arith in e) ∙ pow-suc b len in
+      kept
+      (record {
+        count = h.count;
+        below = h.below;
+        size = step n (joined b ds) (b ^ suc more) (b ^ len) (b ^ (len + 1)) h.size q;
+        lead = elim h.lead [ inl z ↦ inl (absurd (let p = z.0 in omega arith)) | inr z ↦ inr (omega arith, z.1) ];
+      })
+      (λ k l. rest k (omega arith))
+    where
+      step : (n j a t c : ℕ) → n * a ≡ j * t → c ≡ t * b → (n * b + 0) * a ≡ j * c
+      step n j a t c e f =
+          let x : j * c ≡ j * (t * b) = ap (λ (x : ℕ). j * x) f in
+          let z : n * a * b ≡ j * t * b = ap (λ (x : ℕ). x * b) e in
+          omega arith
+  put_zero ds len true n le less (lost h) = lost (record { many = omega (arith, h.many); wide = λ a. h.wide (less a) })
 
-pub none_yet : (ds : List ℕ) → length ds ≡ 38 → AllBelow 10 ds → joined 10 ds ≡ 0 → ((k : ℕ) → get_or ds k 0 ≡ 0) → Pushed ds 0 false 0
-none_yet ds len below z rest = kept (record { count = len; below = below; size = rw z (omega arith); lead = inl (refl, z); rest = λ k h. rest k })
+  -- any other digit makes the number wide
+  pub put_over : (ds : List ℕ) (len : ℕ) (w : Bool) (d n : ℕ) → more < len → (b ^ more ≤ n → HasNarrowDigits (n * b + d) → ⊥)
+      → (HasNarrowDigits (n * b + d) → HasNarrowDigits n) → Pushed b more ds len w n → Pushed b more ds (len + 1) true (n * b + d)
+  put_over ds len false d n le wide less (kept h rest) = lost (record { many = omega arith; wide = wide (large len le h) })
+    where
+      large : (len : ℕ) → more < len → Keeps b more ds len n → b ^ more ≤ n
+      large zero lt h = absurd (omega arith)
+      large (suc under) lt h = let l = from_len b more two ds under n h in let m = power_mono b more under (omega arith) (omega arith) in omega arith
+  put_over ds len true d n le wide less (lost h) = lost (record { many = omega (arith, h.many); wide = λ a. h.wide (less a) })
+
+zeros_below : (b n : ℕ) → 0 < b → AllBelow b (replicate n 0)
+zeros_below b zero h = tt
+zeros_below b (suc n) h = (h, zeros_below b n h)
+
+zeros_at : (n k : ℕ) → ◌≡◌ {A = ℕ} (get_or (replicate n 0) k 0) 0
+zeros_at zero k = refl
+zeros_at (suc n) zero = refl
+zeros_at (suc n) (suc k) = zeros_at n k
+
+zeros_joined : (b n : ℕ) → joined b (replicate n 0) ≡ 0
+zeros_joined b zero = refl
+zeros_joined b (suc n) = let h = zeros_joined b n in omega arith
+
+zeros_length : (n : ℕ) → length (replicate {A = ℕ} n 0) ≡ n
+zeros_length zero = refl
+zeros_length (suc n) = ap (λ (k : ℕ). suc k) (zeros_length n)
+
+-- no digit was pushed
+pub none_yet : (b more : ℕ) → 0 < b → Pushed b more (replicate (suc more) 0) 0 false 0
+none_yet b more h =
+    let z = zeros_joined b (suc more) in
+    kept
+    (record { count = zeros_length (suc more); below = zeros_below b (suc more) h; size = rw z (omega arith); lead = inl (refl, z) })
+    (λ k le. zeros_at (suc more) k)

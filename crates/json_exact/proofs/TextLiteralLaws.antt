@@ -7,10 +7,11 @@ use Rattle.std.proofs.lemmas.List.{append-nil}
 use Rattle.std.proofs.lemmas.Nat.{div-add-mod'}
 use Rattle.json_model.specs.Decimal.{Decimal as Written}
 use Rattle.json_exact.specs.Exact.{signed}
-use Rattle.json_exact.specs.Digits.{count_in, count}
+use Rattle.json_exact.specs.Digits.{count_in, count_of, count}
 use Rattle.json_exact.specs.Literal.{AreDigits, number, IsMinus, IsWholePart, IsFraction, placed, IsLiteral}
 use Rattle.json_exact.specs.Text.{digits_text, sign_text, whole_text, fraction_text, text}
-use Rattle.json_exact.specs.DecimalInverseLaws.{ten_pos, count_step, count_zero}
+use Rattle.json_exact.specs.LeadingDigitsLaws.{count_step, count_zero}
+use Rattle.json_exact.specs.DecimalInverseLaws.{ten_pos}
 use Rattle.json_exact.specs.NumberInverseLaws.{sign_abs}
 use Rattle.json_exact.proofs.DigitTextLaws.{values, number_append}
 use Rattle.json_exact.proofs.TextLaws.{first_of, digits_more}
@@ -53,14 +54,14 @@ record Counted (n c : ℕ) : Type 0 where
   low : 10 ^ under ≤ n
   high : n < 10 ^ suc under
 
-counted_in : (fuel n : ℕ) → n ≤ fuel → 0 < n → Counted n (count_in fuel n)
+counted_in : (fuel n : ℕ) → n ≤ fuel → 0 < n → Counted n (count_in 10 fuel n)
 counted_in zero n le some = absurd (omega arith)
 counted_in (suc fuel) n le some = go (n / 10) refl (λ le some. counted_in fuel (n / 10) le some)
   where
-    go : (t : ℕ) → n / 10 ≡ t → (n / 10 ≤ fuel → 0 < n / 10 → Counted (n / 10) (count_in fuel (n / 10))) → Counted n (count_in (suc fuel) n)
+    go : (t : ℕ) → n / 10 ≡ t → (n / 10 ≤ fuel → 0 < n / 10 → Counted (n / 10) (count_in 10 fuel (n / 10))) → Counted n (count_in 10 (suc fuel) n)
     go zero e f = record {
       under = 0;
-      count_is = count_step fuel n some ∙ ap (λ (x : ℕ). suc (count_in fuel x)) e ∙ ap (λ (x : ℕ). suc x) (count_zero fuel);
+      count_is = count_step 10 fuel n some ∙ ap (λ (x : ℕ). suc (count_in 10 fuel x)) e ∙ ap (λ (x : ℕ). suc x) (count_zero 10 fuel);
       low = (let h : 10 ^ 0 ≡ 1 = refl in omega arith);
       high = (let h : 10 ^ 1 ≡ 10 = refl in omega arith);
     }
@@ -70,17 +71,17 @@ counted_in (suc fuel) n le some = go (n / 10) refl (λ le some. counted_in fuel 
         let q = pow-suc 10 (suc h.under) in
         record {
           under = suc h.under;
-          count_is = count_step fuel n some ∙ ap (λ (x : ℕ). suc x) h.count_is;
+          count_is = count_step 10 fuel n some ∙ ap (λ (x : ℕ). suc x) h.count_is;
           low = (let l = h.low in omega arith);
           high = (let l = h.high in omega arith);
         }
 
 counted : (n : ℕ) → 0 < n → Counted n (count n)
-unfolding count
+unfolding count count_of
 counted n some = counted_in n n (omega arith) some
 
 zero_part : IsWholePart (whole_text 0)
-unfolding count
+unfolding count count_of
 zero_part = ((omega arith, omega arith), tt, λ e. refl)
 
 -- the whole part is `0`, or digits of which the first is not 0

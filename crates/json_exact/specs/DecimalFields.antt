@@ -1,28 +1,23 @@
--- The fields of a `Decimal`, and the parts that they are: 38 digits, of which the first is not 0, and how many digits the
--- number of parts has. This project's own.
-use Rattle.std.specs.Prelude.{◌≡◌, ℕ, ◌*◌, ◌/◌, ◌^◌, ◌≤◌, Bool, false, List, length, ℤ, ◌⊎◌}
+-- The fields of a `Decimal`, and the parts that they are: eleven groups of four digits, of which the first is not 0, and how
+-- many groups the magnitude has when it is written with 4096 groups behind the point. 16384 digits stand in those, one more
+-- than the digits of the parts, so the groups write ten times the parts. This project's own.
+use Rattle.std.specs.Prelude.{◌≡◌, ℕ, ◌*◌, ◌/◌, ◌^◌, ◌<◌, ◌≤◌, true, List, ℤ}
+use Rattle.json_model.specs.Decimal.{HasNarrowDigits}
 use Rattle.json_exact.specs.Exact.{signed}
-use Rattle.json_exact.specs.Digits.{joined, AllBelow}
+use Rattle.json_exact.specs.Digits.{joined}
+use Rattle.json_exact.specs.LeadingDigits.{Keeps}
 use Rattle.json_exact.specs.declared.decimal.Decimal.TheInside.{Inside}
 
 -- the magnitude, in parts
 unfoldable pub size_of : List ℕ → ℕ → ℕ
-size_of ds top = joined 10 ds * 10 ^ top / 10 ^ 38
+size_of gs top = joined 10000 gs * 10000 ^ top / 10000 ^ 11 / 10
 
 -- the value that contracts see
 unfoldable pub parts_of : Inside → ℤ
-parts_of a = signed a.negative (size_of a.digits a.top)
+parts_of a = signed a.negative (size_of a.groups a.top)
 
--- zero has one shape
-pub record IsZero (negative : Bool) (n top : ℕ) : Type 0 where
-  pub nothing : n ≡ 0
-  pub plus : negative ≡ false
-  pub no_top : top ≡ 0
-
--- the first digit is not 0, the magnitude is a whole number of parts, and it is below 10 ^ 131072
+-- the groups write a whole number of parts, which is narrow; zero has no sign; the magnitude is below 10 ^ 131072
 pub record IsFields (a : Inside) : Type 0 where
-  pub count : length a.digits ≡ 38
-  pub below : AllBelow 10 a.digits
-  pub lead : IsZero a.negative (joined 10 a.digits) a.top ⊎ (10 ^ 37 ≤ joined 10 a.digits)
-  pub exact : (q : ℕ) × (joined 10 a.digits * 10 ^ a.top ≡ q * 10 ^ 38)
-  pub low : a.top ≤ 147455
+  pub worth : (q : ℕ) × Keeps 10000 10 a.groups a.top (q * 10) × HasNarrowDigits q
+  pub sign : a.negative ≡ true → 0 < a.top
+  pub low : a.top ≤ 36864

@@ -1,5 +1,7 @@
 pub mod Exact
 pub mod Digits
+pub mod LeadingDigits
+pub mod LeadingDigitsLaws
 pub mod Text
 pub mod Groups
 pub mod Literal
@@ -7,7 +9,9 @@ pub mod Parsed
 pub mod Reading
 pub mod LiteralParts
 pub mod SignificantDigits
+pub mod SignificantGroups
 pub mod DecimalFields
+pub mod DecimalGroups
 pub mod NumberFields
 pub mod DecimalInverseLaws
 pub mod NumberInverseLaws

@@ -1,29 +1,50 @@
-//! `Decimal`: an exact decimal of at most 38 digits.
+//! `Decimal`: an exact decimal of at most 38 digits, kept in groups of four.
 
-ghost use Rattle.std.specs.Prelude.{ℕ, ◌+◌, ◌*◌, ◌/◌, ◌%◌, ◌^◌, ◌≤◌, ◌<◌, ◌≡◌, ◌↔◌, pos, ◌*ℤ◌, nat_abs, int_lt, false, length, drop, All, MatchOption, IfSome, IsTrue};
+ghost use Rattle.std.specs.Prelude.{ℕ, suc, ◌+◌, ◌-◌, ◌*◌, ◌/◌, ◌%◌, ◌^◌, ◌≤◌, ◌<◌, ◌≡◌, ◌↔◌, pos, ◌+ℤ◌, ◌*ℤ◌, ◌<ℤ◌, nat_abs, int_lt, false, length, MatchOption, IfSome, IsTrue};
 ghost use Rattle.std.specs.Ordering.{nat_cmp};
 ghost use Rattle.json_model.specs.Decimal.{HasNarrowDigits, IsWhole};
+ghost use Rattle.json_exact.specs.DecimalGroups.{group, IsGreatestPlace, IsLeastPlace, IsScaled};
 ghost use Rattle.json_exact.specs.Digits.{joined, count};
 ghost use Rattle.json_exact.specs.Exact.{signed, exactly, parts, IsWithinLimits};
 ghost use Rattle.json_exact.specs.Groups.{groups_of, lifted, AreGroups, AreWorth};
 ghost use Rattle.json_exact.specs.SignificantDigits.{Holds};
+ghost use Rattle.json_exact.specs.SignificantGroups.{HoldsGroups};
 
+use crate::group::{
+    digit_of_group, digits_behind_first, ends_in_zeros, last_index, number_of, without_zeros,
+};
+use crate::regrouping::regrouped;
 use crate::significant_digits::SignificantDigits;
+use crate::significant_groups::SignificantGroups;
 use std::cmp::Ordering;
 use std::marker::Model;
 
 /// How many fraction digits write each `Decimal` exactly.
 pub(crate) const FRACTION_DIGITS: u32 = 16_383;
 
+/// How many groups stand behind the point where all fraction digits of a `Decimal` are written, and one more digit, which is 0.
+const FRACTION_GROUPS: u16 = 4_096;
+
 /// An exact decimal: at most 38 digits from the first to the last that is not 0, of a magnitude below 10^131072, and
 /// written exactly by 16,383 fraction digits. `==` and `<` compare values. Zero has no sign.
 #[derive(Clone, Copy, Debug)]
 pub struct Decimal {
     negative: bool,
-    // the digits from the first that is not 0 on; all 0 where the value is
-    digits: [u8; 38],
-    // how many digits the magnitude has when it is written with `FRACTION_DIGITS` fraction digits; 0 where the value is
-    top: u32,
+    // groups of four digits from the first that is not 0 on; all 0 where the value is
+    groups: [u16; 11],
+    // how many groups the magnitude has when it is written with `FRACTION_GROUPS` groups behind the point; 0 where the value is
+    top: u16,
+}
+
+/// A value as a mantissa and an exponent: that of -0.50 is -5 * 10^-1.
+#[derive(Clone, Copy, Debug, PartialEq, Eq)]
+pub struct DecimalParts {
+    /// Whether the value is below zero.
+    pub negative: bool,
+    /// The magnitude without the zeros at its end. It has at most 38 digits, and is 0 for zero.
+    pub mantissa: u128,
+    /// The power of ten that the mantissa is multiplied by; 0 for zero.
+    pub exponent: i32,
 }
 
 impl Model for Decimal {
@@ -43,20 +64,43 @@ impl Model for Decimal {
     ghost inverse_ok = { fields_of-parts_of };
 }
 
-/// The digits that groups write.
-fn digits_of(groups: &[u8]) -> SignificantDigits
-    requires len { length groups.now < 2 ^ 63 }
-    requires groups { AreGroups groups.now }
-    ensures len { result.len ≤ 2 * length groups.now }
-    ensures holds { Holds result (joined 10000 (groups_of groups.now)) }
+/// The groups that bytes hold.
+fn groups_of(bytes: &[u8]) -> SignificantGroups
+    requires len { length bytes.now < 2 ^ 63 }
+    requires groups { AreGroups bytes.now }
+    ensures len { result.len ≤ length bytes.now / 2 }
+    ensures holds { HoldsGroups result (joined 10000 (groups_of bytes.now)) }
 {
-    let mut digits = SignificantDigits::new();
-    let mut rest = groups;
+    let mut groups = SignificantGroups::new();
+    let mut rest = bytes;
     while let [low, high, more @ ..] = rest {
-        digits.push_group(*low as u16 + 256 * *high as u16);
+        groups.push(*low as u16 + 256 * *high as u16);
         rest = more;
     }
-    digits
+    groups
+}
+
+/// The place that counts from the point, of one that counts from the last of the `FRACTION_GROUPS`.
+fn place_of(lifted: u16) -> i32
+    ensures { result +ℤ pos 4096 ≡ pos lifted }
+{
+    lifted as i32 - FRACTION_GROUPS as i32
+}
+
+/// The power of ten of the digit that `zeros` digits follow in the group at a place. The place counts from the last of the
+/// `FRACTION_GROUPS`.
+fn exponent_of(lifted: u16, zeros: u32) -> i32
+    requires zeros { zeros < 4 }
+    ensures { result +ℤ pos 16384 ≡ pos (4 * lifted + zeros) }
+{
+    4 * lifted as i32 + zeros as i32 - 4 * FRACTION_GROUPS as i32
+}
+
+/// The place that counts from the last of the `FRACTION_GROUPS`, of one that counts from the point.
+fn lifted_place(place: i32) -> Option<u64>
+    ensures { MatchOption result ((place +ℤ pos 4096) <ℤ pos 0) (λ lifted. place +ℤ pos 4096 ≡ pos lifted) }
+{
+    u64::try_from(place as i64 + FRACTION_GROUPS as i64).ok()
 }
 
 /// How far a weight lies above the least one.
@@ -66,47 +110,51 @@ fn lifted(weight: i16) -> u16
     weight.abs_diff(i16::MIN)
 }
 
-/// Whether all digits from an index on are 0.
-fn ends_in_zeros(digits: &[u8], index: usize) -> bool
-    ensures { IsTrue result ↔ All (λ d. d ≡ 0) (drop index digits.now) }
-{
-    if index >= digits.len() {
-        return true;
-    }
-    digits[index..].iter().all(|&digit| digit == 0)
-}
-
 impl Decimal {
-    /// The decimal whose magnitude, in units of its last of `FRACTION_DIGITS` fraction digits, is the number that
-    /// `digits` holds times 10^`up` divided by 10^`down`.
-    pub(crate) fn from_digits(
-        negative: bool,
-        digits: SignificantDigits,
-        up: u128,
-        down: u128,
-    ) -> Decimal
-        requires up { up < 2 ^ 100 }
-        requires down { down < 2 ^ 100 }
-        requires kept { digits.too_wide ≡ false }
-        requires exact { (n q : ℕ) × Holds digits n × (n * 10 ^ up ≡ q * 10 ^ down) }
-        requires low { digits.len + up ≤ 147455 + down }
-        ensures value { (n q : ℕ) → Holds digits n → n * 10 ^ up ≡ q * 10 ^ down → result ≡ signed negative q }
+    /// The decimal whose magnitude, in units of the last digit of its `FRACTION_GROUPS`, is the number that `groups` holds
+    /// times 10000^`up` divided by 10000^`down`.
+    fn from_significant(negative: bool, groups: SignificantGroups, up: u64, down: u64) -> Decimal
+        requires down { down < 2 ^ 63 }
+        requires kept { groups.too_wide ≡ false }
+        requires exact { (n q : ℕ) × HoldsGroups groups n × HasNarrowDigits n × (n * 10000 ^ up ≡ q * 10 * 10000 ^ down) }
+        requires low { groups.len + up ≤ 36864 + down }
+        ensures value { (n q : ℕ) → HoldsGroups groups n → n * 10000 ^ up ≡ q * 10 * 10000 ^ down → result ≡ signed negative q }
         ensures limits { IsWithinLimits result }
     {
-        let kept = digits.digits;
-        if digits.len == 0 {
+        let kept = groups.groups;
+        if groups.len == 0 {
             Decimal {
                 negative: false,
-                digits: kept,
+                groups: kept,
                 top: 0,
             }
         } else {
             Decimal {
                 negative,
-                digits: kept,
-                top: (digits.len as u128 + up - down) as u32,
+                groups: kept,
+                top: (groups.len + up - down) as u16,
             }
         }
+    }
+
+    /// The decimal whose magnitude, in units of its last of `FRACTION_DIGITS` fraction digits, is the number that
+    /// `digits` holds times 10^`up`.
+    pub(crate) fn from_digits(negative: bool, digits: SignificantDigits, up: u32) -> Decimal
+        requires kept { digits.too_wide ≡ false }
+        requires some { (n : ℕ) × Holds digits n }
+        requires low { digits.len + up ≤ 147455 }
+        ensures value { (n : ℕ) → Holds digits n → result ≡ signed negative (n * 10 ^ up) }
+        ensures limits { IsWithinLimits result }
+    {
+        // One more digit ends the last group.
+        let count = digits.len + up as u64 + 1;
+        let padding = (4 - count % 4) % 4;
+        Decimal::from_significant(
+            negative,
+            regrouped(&digits.digits, padding),
+            (count + padding) / 4,
+            11,
+        )
     }
 
     /// The sum of group i times 10000^(`weight` - i), negated where `negative` is true. Each group is two bytes of
@@ -121,13 +169,13 @@ impl Decimal {
             MatchOption result (¬ HasNarrowDigits q) (λ d. d ≡ signed negative q) }
         ensures limits { IfSome result (λ d. IsWithinLimits d) }
     {
-        let digits = digits_of(groups);
-        if digits.too_wide {
+        let kept = groups_of(groups);
+        if !kept.is_narrow() {
             return None;
         }
-        let up = FRACTION_DIGITS as u128 + 4 * (lifted(weight) as u128 + 1);
-        let down = 4 * (groups.len() as u128 / 2 + 0x8000);
-        Some(Decimal::from_digits(negative, digits, up, down))
+        let up = lifted(weight) as u64 + 1 + FRACTION_GROUPS as u64;
+        let down = groups.len() as u64 / 2 + 0x8000;
+        Some(Decimal::from_significant(negative, kept, up, down))
     }
 
     /// The decimal of the same value. It needs no memory.
@@ -135,12 +183,7 @@ impl Decimal {
         ensures value { result ≡ pos (value * parts) }
         ensures limits { IsWithinLimits result }
     {
-        Decimal::from_digits(
-            false,
-            SignificantDigits::of_number(value),
-            FRACTION_DIGITS as u128,
-            0,
-        )
+        Decimal::from_digits(false, SignificantDigits::of_number(value), FRACTION_DIGITS)
     }
 
     /// The decimal of the same value. It needs no memory.
@@ -151,18 +194,18 @@ impl Decimal {
         Decimal::from_digits(
             value < 0,
             SignificantDigits::of_number(value.unsigned_abs()),
-            FRACTION_DIGITS as u128,
-            0,
+            FRACTION_DIGITS,
         )
     }
 
-    /// The order of the two magnitudes. A magnitude of more digits is larger, since its first digit is not 0.
+    /// The order of the two magnitudes. A magnitude of more groups is larger, since its first group is not 0.
     fn compare_magnitudes(&self, other: &Decimal) -> Ordering
         ensures { result ≡ nat_cmp (nat_abs self.now) (nat_abs other.now) }
     {
-        self.top
-            .cmp(&other.top)
-            .then(self.digits.cmp(&other.digits))
+        if self.top != other.top {
+            return self.top.cmp(&other.top);
+        }
+        self.groups.cmp(&other.groups)
     }
 
     /// Whether the value is whole, as that of `1.0` is.
@@ -173,8 +216,8 @@ impl Decimal {
         ensures limits { IsWithinLimits self.now }
     {
         ends_in_zeros(
-            &self.digits,
-            self.top.saturating_sub(FRACTION_DIGITS) as usize,
+            &self.groups,
+            self.top.saturating_sub(FRACTION_GROUPS) as usize,
         )
     }
 
@@ -190,21 +233,94 @@ impl Decimal {
     pub(crate) fn digit_count(&self) -> u32
         ensures { result ≡ count (nat_abs self.now) }
     {
-        self.top
+        if self.top == 0 {
+            return 0;
+        }
+        // The last digit of the last group is none of the `FRACTION_DIGITS`.
+        4 * (self.top as u32 - 1) + digits_behind_first(self.groups[0])
+    }
+
+    /// The group at a place of the magnitude. The last of `FRACTION_GROUPS` groups behind the point has place 0.
+    fn group_at(&self, place: u64) -> u16
+        ensures group { result ≡ nat_abs self.now * 10 / 10000 ^ place % 10000 }
+        ensures below { result < 10000 }
+    {
+        if place >= self.top as u64 {
+            return 0;
+        }
+        let index = (self.top as u64 - 1 - place) as usize;
+        if index >= self.groups.len() {
+            return 0;
+        }
+        self.groups[index]
+    }
+
+    /// The greatest place whose group is not 0, as 1 of 12345 and -1 of 0.5; 0 for zero.
+    pub fn weight(&self) -> i32
+        ensures zero { self.now ≡ pos 0 → result ≡ pos 0 }
+        ensures greatest { (self.now ≡ pos 0 → ⊥) → IsGreatestPlace (nat_abs self.now) result }
+    {
+        if self.top == 0 {
+            return 0;
+        }
+        place_of(self.top - 1)
+    }
+
+    /// The least place whose group is not 0, as 0 of 12345 and -1 of 12345.6; 0 for zero.
+    pub fn last_place(&self) -> i32
+        ensures zero { self.now ≡ pos 0 → result ≡ pos 0 }
+        ensures least { (self.now ≡ pos 0 → ⊥) → IsLeastPlace (nat_abs self.now) result }
+    {
+        if self.top == 0 {
+            return 0;
+        }
+        let last = last_index(&self.groups) as u16;
+        place_of(self.top - 1 - last)
+    }
+
+    /// The group at a place: the magnitude divided by 10000^`place`, rounded down, modulo 10000. Of 12345 the group at place 0
+    /// is 2345, and that at place -1 is 0.
+    pub fn group(&self, place: i32) -> u16
+        ensures { result ≡ group place (nat_abs self.now) }
+    {
+        match lifted_place(place) {
+            Some(lifted) => self.group_at(lifted),
+            None => 0,
+        }
+    }
+
+    /// The value as a mantissa that does not end in 0, and a power of ten: 1200 is 12 * 10^2. It needs no memory.
+    pub fn parts(&self) -> DecimalParts
+        ensures negative { result.negative ≡ int_lt self.now (pos 0) }
+        ensures magnitude { IsScaled (nat_abs self.now) result.mantissa result.exponent }
+        ensures last { (self.now ≡ pos 0 → ⊥) → 0 < result.mantissa % 10 }
+        ensures zero { self.now ≡ pos 0 → (result.mantissa ≡ 0) × (result.exponent ≡ pos 0) }
+        ensures narrow { result.mantissa < 10 ^ 38 }
+    {
+        if self.top == 0 {
+            return DecimalParts {
+                negative: self.negative,
+                mantissa: 0,
+                exponent: 0,
+            };
+        }
+        let last = last_index(&self.groups);
+        let ending = without_zeros(self.groups[last]);
+        let before = number_of(&self.groups, last);
+        DecimalParts {
+            negative: self.negative,
+            mantissa: before * ending.scale as u128 + ending.digits as u128,
+            exponent: exponent_of(self.top - 1 - last as u16, ending.zeros),
+        }
     }
 
     /// The digit at a place of the magnitude. The last of `FRACTION_DIGITS` fraction digits has place 0.
     pub(crate) fn digit_at(&self, place: u32) -> u8
         ensures { result ≡ nat_abs self.now / 10 ^ place % 10 }
     {
-        if place >= self.top {
-            return 0;
-        }
-        let index = (self.top - 1 - place) as usize;
-        if index >= self.digits.len() {
-            return 0;
-        }
-        self.digits[index]
+        // The last digit of the last group is none of the `FRACTION_DIGITS`.
+        let place = place as u64 + 1;
+        digit_of_group(self.group_at(place / 4), place % 4)
     }
 }
 
@@ -218,7 +334,7 @@ impl PartialEq for Decimal {
     ghost laws = { Prim.search (comparing, rules) };
 
     fn eq(&self, other: &Decimal) -> bool {
-        self.negative == other.negative && self.top == other.top && self.digits == other.digits
+        self.negative == other.negative && self.top == other.top && self.groups == other.groups
     }
 }
 

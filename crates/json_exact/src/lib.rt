@@ -11,8 +11,20 @@
 //! Decimal::parse("-2")? < Decimal::from_i64(-1);           // true
 //! Decimal::parse("7.0")?.to_u64();                         // Some(7)
 //! Decimal::from_groups(false, 1, &[1, 0, 0x29, 0x09]);     // 12345, from the groups 1 and 2345 of PostgreSQL's `numeric`
+//! Decimal::parse("-12345.6")?.parts();                     // negative, mantissa 123456, exponent -1
 //! map.insert(key, Value::Number(number))?;                 // the old value under the key, if any
 //! ```
+//!
+//! A `Decimal` is kept as PostgreSQL stores it in `jsonb`: in groups of four digits that begin at the point. The first group
+//! is not 0, zeros fill up the eleven, and `top` counts the groups from the first to the last of 4,096 behind the point.
+//!
+//! ```text
+//! -12345.6      place       1     0    -1    -2  ..  -9        weight() is 1, last_place() is -1, group(0) is 2345
+//!               groups  [   1, 2345, 6000,    0, ..,  0 ]      top is 1 + 1 + 4096
+//! ```
+//!
+//! So a number of a slice is read by copying its groups, two decimals are compared by `top` and then by groups, and no digit
+//! is taken out of a number wider than one group.
 //!
 //! The notation is that of RFC 8259, section 6, and the values those of section 3. The limits are this project's own: a
 //! decimal has at most 38 digits from the first to the last that is not 0, its magnitude is below 10^131072, and 16,383
@@ -25,6 +37,7 @@
 #![tactic(auto)]
 
 mod decimal;
+mod group;
 pub mod laws;
 mod literal;
 mod map;
@@ -33,12 +46,14 @@ mod number;
 mod number_error;
 mod out_of_memory;
 mod parse;
+mod regrouping;
 mod significant_digits;
+mod significant_groups;
 mod text;
 mod value;
 mod whole;
 
-pub use decimal::Decimal;
+pub use decimal::{Decimal, DecimalParts};
 pub use key_map::MapError;
 pub use map::{InsertError, Map, Member};
 pub use map_iter::MapIter;

@@ -65,7 +65,7 @@ fn value(literal: Literal) -> Result<(Decimal, u16), NumberError>
     }
     if digits.len == 0 {
         return Ok((
-            Decimal::from_digits(literal.negative, digits, 0, 0),
+            Decimal::from_digits(literal.negative, digits, 0),
             fraction_digits as u16,
         ));
     }
@@ -77,7 +77,7 @@ fn value(literal: Literal) -> Result<(Decimal, u16), NumberError>
     }
     let up = zeros + (MOST_FRACTION_DIGITS - fraction_digits);
     Ok((
-        Decimal::from_digits(literal.negative, digits, up as u128, 0),
+        Decimal::from_digits(literal.negative, digits, up as u32),
         fraction_digits as u16,
     ))
 }

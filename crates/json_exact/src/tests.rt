@@ -1,4 +1,4 @@
-use crate::decimal::Decimal;
+use crate::decimal::{Decimal, DecimalParts};
 use crate::number::Number;
 use crate::out_of_memory::OutOfMemory;
 use std::alloc::Global;
@@ -133,4 +133,64 @@ fn literals_are_parsed(rt: HostRuntime) {
     assert_eq!(rt; number.fraction_digits(), 2);
     assert!(rt; Decimal::parse("1.5") == Ok(number.decimal()));
     assert!(rt; Decimal::parse("-0.0") == Decimal::parse("0"));
+}
+
+#[test]
+fn parsed_decimals_are_in_the_order_of_their_values(rt: HostRuntime) {
+    let rows = [
+        ("-12345.0001", "-12345"),
+        ("12345", "12345.0001"),
+        (
+            "99999999999999999999999999999999999999e0",
+            "99999999999999999999999999999999999999e1",
+        ),
+        (
+            "99999999999999999999999999999999999999e1",
+            "99999999999999999999999999999999999999e2",
+        ),
+        (
+            "99999999999999999999999999999999999999e2",
+            "99999999999999999999999999999999999999e3",
+        ),
+    ];
+    for (lesser, greater) in rows {
+        match (Decimal::parse(lesser), Decimal::parse(greater)) {
+            (Ok(lesser), Ok(greater)) => assert!(rt; lesser < greater),
+            _ => assert!(rt; false, "{lesser} and {greater} are numbers"),
+        }
+    }
+}
+
+#[test]
+fn decimals_have_parts_and_groups(rt: HostRuntime) {
+    // The mantissa and the exponent, the weight, the last place, and the groups at 0 and at -2.
+    let rows = [
+        ("0e999999", 0, 0, 0, 0, 0, 0),
+        ("70", 7, 1, 0, 0, 70, 0),
+        ("0.000079800", 798, -7, -2, -2, 0, 7980),
+        (
+            "22163932410697346800820.9545677",
+            221639324106973468008209545677,
+            -7,
+            5,
+            -2,
+            820,
+            6770,
+        ),
+        ("1e131071", 1, 131071, 32767, 32767, 0, 0),
+    ];
+    for (text, mantissa, exponent, weight, last_place, ones, last) in rows {
+        let Ok(decimal) = Decimal::parse(text) else {
+            panic!(rt; "{text} is a number");
+        };
+        let parts = DecimalParts {
+            negative: false,
+            mantissa,
+            exponent,
+        };
+        assert!(rt; decimal.parts() == parts, "{text}");
+        assert_eq!(rt; decimal.weight(), weight, "{text}");
+        assert_eq!(rt; decimal.last_place(), last_place, "{text}");
+        assert_eq!(rt; (decimal.group(0), decimal.group(-2)), (ones, last), "{text}");
+    }
 }

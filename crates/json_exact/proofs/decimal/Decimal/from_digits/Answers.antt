@@ -1,27 +1,41 @@
-use Rattle.std.proofs.Common.{ℕ, refl, subst, arith}
-use Rattle.json_exact.specs.SignificantDigits.{Keeps}
-use Rattle.json_exact.proofs.DigitLaws.{above_none}
-use Rattle.json_exact.proofs.FieldLaws.{keeps_of, some_is, fields_none, fields_some, parts_none, parts_some}
-use Rattle.json_exact.proofs.WholeLaws.{limits}
+use Rattle.std.proofs.Common.{◌+◌, ◌*◌, ◌/◌, ◌%◌, ◌^◌, ◌-◌, refl, arith}
+use Rattle.json_exact.specs.Digits.{joined}
+use Rattle.json_exact.proofs.FieldLaws.{keeps_of}
+use Rattle.json_exact.proofs.GroupLaws.{not_wide}
+use Rattle.json_exact.proofs.RegroupLaws.{padded, regrouped_is, regrouped_narrow}
 use Rattle.json_exact.proofs.decimal.Decimal.from_digits.Goals as goal
 
-pub overflow_add-result : goal.overflow_add-result
-overflow_add-result c = let h = c.requires.low in let g = c.requires.down in omega arith
+pub regrouped-requires-clause-digits : goal.regrouped-requires-clause-digits
+regrouped-requires-clause-digits c = let (n, h) = c.requires.some in (keeps_of _ _ _ n h c.requires.kept).below
 
-pub overflow_sub-result : goal.overflow_sub-result
-overflow_sub-result c = let (n, q, h, e) = c.requires.exact in (some_is _ _ n _ _ q (above_none _ c.if-digits-eq0.false) (keeps_of _ _ _ n h c.requires.kept) e).under
+pub from_significant-requires-clause-kept : goal.from_significant-requires-clause-kept
+from_significant-requires-clause-kept c =
+    let (n, h) = c.requires.some in
+    not_wide _ _ _ _ c.regrouped.ensures.holds (regrouped_narrow c.args.digits.digits _ n _ (keeps_of _ _ _ n h c.requires.kept))
 
-pub invariant_of-result : goal.invariant_of-result
-invariant_of-result c = let (n, q, h, e) = c.requires.exact in fields_some _ _ _ n _ _ q (above_none _ c.if-digits-eq0.false) (keeps_of _ _ _ n h c.requires.kept) e c.requires.low
+pub from_significant-requires-clause-exact : goal.from_significant-requires-clause-exact
+from_significant-requires-clause-exact c =
+    let (n, h) = c.requires.some in
+    let k = keeps_of _ _ _ n h c.requires.kept in
+    let count = c.args.digits.len + c.args.up + 1 in (
+      joined 10 c.args.digits.digits * 10 ^ (6 - (4 - count % 4) % 4),
+      n * 10 ^ c.args.up,
+      c.regrouped.ensures.holds,
+      regrouped_narrow c.args.digits.digits _ n ((4 - count % 4) % 4) k,
+      regrouped_is c.args.digits.digits _ n c.args.up ((4 - count % 4) % 4) ((count + (4 - count % 4) % 4) / 4) k (omega arith) (padded count ((4 - count % 4) % 4) refl),
+    )
 
-pub returns-then-digits-eq0-clause-value : goal.returns-then-digits-eq0-clause-value
-returns-then-digits-eq0-clause-value c = λ n q h e. parts_none _ _ n _ _ q (subst (λ (k : ℕ). Keeps c.args.digits.digits k n) c.if-digits-eq0.true (keeps_of _ _ _ n h c.requires.kept)) e
+pub from_significant-requires-clause-low : goal.from_significant-requires-clause-low
+from_significant-requires-clause-low c =
+    let l = c.requires.low in
+    let g = c.regrouped.ensures.len in
+    let count = c.args.digits.len + c.args.up + 1 in
+    let p = padded count ((4 - count % 4) % 4) refl in
+    omega arith
 
-pub returns-else-digits-eq0-clause-value : goal.returns-else-digits-eq0-clause-value
-returns-else-digits-eq0-clause-value c = λ n q h e. parts_some _ _ _ n _ _ q (above_none _ c.if-digits-eq0.false) (keeps_of _ _ _ n h c.requires.kept) e
-
-pub returns-then-digits-eq0-clause-limits : goal.returns-then-digits-eq0-clause-limits
-returns-then-digits-eq0-clause-limits c = let (n, q, h, e) = c.requires.exact in limits _ _ (fields_none _ n _ _ q (subst (λ (k : ℕ). Keeps c.args.digits.digits k n) c.if-digits-eq0.true (keeps_of _ _ _ n h c.requires.kept)) e) refl
-
-pub returns-else-digits-eq0-clause-limits : goal.returns-else-digits-eq0-clause-limits
-returns-else-digits-eq0-clause-limits c = let (n, q, h, e) = c.requires.exact in limits _ _ (fields_some _ _ _ n _ _ q (above_none _ c.if-digits-eq0.false) (keeps_of _ _ _ n h c.requires.kept) e c.requires.low) refl
+pub returns-clause-value : goal.returns-clause-value
+returns-clause-value c = λ n h.
+    let k = keeps_of _ _ _ n h c.requires.kept in
+    let count = c.args.digits.len + c.args.up + 1 in
+    c.from_significant.ensures.value (joined 10 c.args.digits.digits * 10 ^ (6 - (4 - count % 4) % 4)) (n * 10 ^ c.args.up) c.regrouped.ensures.holds
+    (regrouped_is c.args.digits.digits _ n c.args.up ((4 - count % 4) % 4) ((count + (4 - count % 4) % 4) / 4) k (omega arith) (padded count ((4 - count % 4) % 4) refl))

@@ -1,0 +1,6 @@
+use Rattle.std.proofs.Common.{arith}
+use Rattle.json_exact.proofs.PushLaws.{none_yet}
+use Rattle.json_exact.proofs.significant_groups.SignificantGroups.new.Goals as goal
+
+pub returns-clause-holds : goal.returns-clause-holds
+returns-clause-holds c = none_yet 10000 10 (omega arith)

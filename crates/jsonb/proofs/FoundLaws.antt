@@ -2,11 +2,11 @@
 use Rattle.std.proofs.Common.{◌≡◌, ℕ, List, [], ◌∷◌, length, Bool, true, false, Option, Some, None, refl, sym, ap, ◌∙◌, arith}
 use Rattle.std.specs.Prelude.{◌||◌}
 use Rattle.json_model.specs.Tree.{Elements, no_elements, element}
-use Rattle.jsonb_layout.specs.Trees.{members}
+use Rattle.jsonb_layout.specs.inner.Trees.{members}
 use Rattle.jsonb_layout.proofs.Containers.{count}
 use Rattle.jsonb.specs.declared.found.Found.{Found}
 use Rattle.jsonb.specs.Found.{nothing, both, text_found, keys_found, tree_found, elements_found, members_found}
-use Rattle.jsonb.specs.Frames.{combine}
+use Rattle.jsonb.specs.inner.Frames.{combine}
 
 or_assoc : (a b c : Bool) → ((a || b) || c) ≡ (a || (b || c))
 or_assoc true b c = refl

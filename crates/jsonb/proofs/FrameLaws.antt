@@ -4,20 +4,21 @@ use Rattle.std.specs.Prelude.{option_map, max}
 use Rattle.std.proofs.lemmas.Bool.{eq-eqb, ne_eqb}
 use Rattle.json_model.specs.Tree.{Scalar, Tree, scalar, array, object, Elements, no_elements, element}
 use Rattle.json_model.specs.Nest.{nest, nest_elements, nest_members}
-use Rattle.jsonb_layout.specs.Layout.{Item, Form, list, pairs, lone}
-use Rattle.jsonb_layout.specs.Reading.{◌>>=◌, only_if, Place, item_at, unpadded, scalar_of, keys_at, opened, ended}
-use Rattle.jsonb_layout.specs.Trees.{item_by, elements_by, members, held_by, read, item_tree}
-use Rattle.jsonb_layout.proofs.Tools.{bind_some, some_is}
+use Rattle.jsonb_layout.specs.Layout.{Item}
+use Rattle.jsonb_layout.specs.declared.form.Form.{Form}
+use Rattle.jsonb_layout.specs.declared.form.Form.TheVariants.{Array, Object, Lone}
+use Rattle.jsonb_layout.specs.Options.{◌>>=◌, only_if}
+use Rattle.jsonb_layout.specs.inner.Reading.{Place, item_at, unpadded, scalar_of, keys_at, opened, ended}
+use Rattle.jsonb_layout.specs.inner.Trees.{item_by, elements_by, members, held_by, read, item_tree}
+use Rattle.jsonb_layout.proofs.Tools.{bind_some, some_is, less_one}
 use Rattle.jsonb_layout.proofs.Openings.{ended_is}
 use Rattle.jsonb_layout.proofs.Containers.{count}
 use Rattle.jsonb_layout.proofs.Shapes.{elements_count, keys_count, read_no_scalar}
 use Rattle.jsonb_layout.proofs.Unrolled.{read_unroll}
 use Rattle.jsonb.specs.declared.found.Found.{Found}
 use Rattle.jsonb.specs.declared.frame.Frame.{Frame}
-use Rattle.jsonb.specs.declared.opening.Shape.{Shape}
 use Rattle.jsonb.specs.Found.{nothing, both, scalar_found, keys_found, keys_after, tree_found, elements_found}
-use Rattle.jsonb.specs.Frames.{combine, container_found, rest_found, frame_found, frames_found, frame_weight, frames_weight, IsInside}
-use Rattle.jsonb.specs.Views.{form}
+use Rattle.jsonb.specs.inner.Frames.{combine, container_found, rest_found, frame_found, frames_found, frame_weight, frames_weight, IsInside}
 use Rattle.jsonb.proofs.FoundLaws.{combine_assoc, combine_comm, combine_nothing, nothing_combine, members_found_is}
 
 -- ---- the end of a frame
@@ -33,9 +34,6 @@ pub past_end : (n : ℕ) (p : Place) → n ≡ 0 → (length p.rest ≡ 0 → �
 past_end n p e h = rest_end n p e ∙ rw (ne_eqb (length p.rest) 0 h) refl
 
 -- ---- the next value of a frame
-
-less_one : (n : ℕ) → 0 < n → suc (n - 1) ≡ n
-less_one n h = omega arith
 
 end_both : (b : Bool) (f g : Found) → only_if b (Some (both f g)) ≡ combine (Some f) (only_if b (Some g))
 end_both true f g = refl
@@ -115,15 +113,15 @@ module _ (b : List ℕ) where
   pub not_opened : None ≡ opened b → container_found b ≡ None
   not_opened e = opened_by None e
 
-  pub array_found : (c : ℕ) (p : Place) → Some (list, c, p) ≡ opened b → container_found b ≡ combine (Some nothing) (rest_found c p)
-  array_found c p e = opened_by (Some (list, c, p)) e ∙ array_end (elements_by read c p) ∙ sym (nothing_combine (rest_found c p))
+  pub array_found : (c : ℕ) (p : Place) → Some (Array, c, p) ≡ opened b → container_found b ≡ combine (Some nothing) (rest_found c p)
+  array_found c p e = opened_by (Some (Array, c, p)) e ∙ array_end (elements_by read c p) ∙ sym (nothing_combine (rest_found c p))
 
-  pub lone_found : (c : ℕ) (p : Place) → Some (lone, c, p) ≡ opened b → container_found b ≡ None
-  lone_found c p e = opened_by (Some (lone, c, p)) e
+  pub lone_found : (c : ℕ) (p : Place) → Some (Lone, c, p) ≡ opened b → container_found b ≡ None
+  lone_found c p e = opened_by (Some (Lone, c, p)) e
 
-  module _ (c : ℕ) (p : Place) (e : Some (pairs, c, p) ≡ opened b) where
+  module _ (c : ℕ) (p : Place) (e : Some (Object, c, p) ≡ opened b) where
     object_by : (k : Option (List (List ℕ) × Place)) → k ≡ keys_at c None p → container_found b ≡ option_map tree_found (k >>= λ k. elements_by read c k.1 >>= λ r. ended r.1 (object (members k.0 r.0)))
-    object_by k h = opened_by (Some (pairs, c, p)) e ∙ ap (λ (k : Option (List (List ℕ) × Place)). option_map tree_found (k >>= λ k. elements_by read c k.1 >>= λ r. ended r.1 (object (members k.0 r.0)))) (sym h)
+    object_by k h = opened_by (Some (Object, c, p)) e ∙ ap (λ (k : Option (List (List ℕ) × Place)). option_map tree_found (k >>= λ k. elements_by read c k.1 >>= λ r. ended r.1 (object (members k.0 r.0)))) (sym h)
 
     pub no_keys : None ≡ keys_at c None p → container_found b ≡ None
     no_keys h = object_by None h
@@ -149,17 +147,17 @@ module _ (b : List ℕ) (t : Tree) (is : read b ≡ Some t) (low : nest t ≤ 1)
   held_is : (f : Form) (c : ℕ) (p : Place) → Some (f, c, p) ≡ opened b → held_by read f c p ≡ Some t
   held_is f c p e = ap (λ (o : Option (Form × ℕ × Place)). o >>= λ o. held_by read o.0 o.1 o.2) e ∙ sym (read_unroll b) ∙ is
 
-  pub array_flat : (c : ℕ) (p : Place) → Some (list, c, p) ≡ opened b → Flat c p
+  pub array_flat : (c : ℕ) (p : Place) → Some (Array, c, p) ≡ opened b → Flat c p
   array_flat c p e r h =
-      let a = bind_some (elements_by read c p) (λ r. ended r.1 (array r.0)) t (held_is list c p e) in
+      let a = bind_some (elements_by read c p) (λ r. ended r.1 (array r.0)) t (held_is Array c p e) in
       let d = ended_is a.0.1 (array a.0.0) t a.2 in
       let same : a.0 ≡ r = some_is a.0 r (sym a.1 ∙ h) in
       let n : nest t ≡ 1 + nest_elements a.0.0 = ap nest (sym d.1) in
       subst (λ (y : Elements × Place). nest_elements y.0 ≡ 0) same (omega arith)
 
-  pub object_flat : (c : ℕ) (p : Place) → Some (pairs, c, p) ≡ opened b → (k : List (List ℕ) × Place) → Some k ≡ keys_at c None p → Flat c k.1
+  pub object_flat : (c : ℕ) (p : Place) → Some (Object, c, p) ≡ opened b → (k : List (List ℕ) × Place) → Some k ≡ keys_at c None p → Flat c k.1
   object_flat c p e k g r h =
-      let j = bind_some (keys_at c None p) (λ k. elements_by read c k.1 >>= λ r. ended r.1 (object (members k.0 r.0))) t (held_is pairs c p e) in
+      let j = bind_some (keys_at c None p) (λ k. elements_by read c k.1 >>= λ r. ended r.1 (object (members k.0 r.0))) t (held_is Object c p e) in
       let same : j.0 ≡ k = some_is j.0 k (sym j.1 ∙ sym g) in
       let rest : (elements_by read c k.1 >>= λ r. ended r.1 (object (members k.0 r.0))) ≡ Some t = subst (λ (y : List (List ℕ) × Place). (elements_by read c y.1 >>= λ r. ended r.1 (object (members y.0 r.0))) ≡ Some t) same j.2 in
       let a = bind_some (elements_by read c k.1) (λ r. ended r.1 (object (members k.0 r.0))) t rest in
@@ -238,8 +236,9 @@ put_off fs all f e = (ap frames_found e ∙ frames-append fs f, ap frames_weight
 
 -- ---- the code's values
 
-pub form_open : (s t : Shape) (b : List ℕ) (c : ℕ) (p : Place) → s ≡ t → Some (form s, c, p) ≡ opened b → Some (form t, c, p) ≡ opened b
-form_open s t b c p is e = subst (λ (u : Shape). Some (form u, c, p) ≡ opened b) is e
+-- a container that was opened, by its form
+pub opened_as : {f g : Form} {c : ℕ} {p : Place} (b : List ℕ) → f ≡ g → Some (f, c, p) ≡ opened b → Some (g, c, p) ≡ opened b
+opened_as {c = c} {p = p} b is e = subst (λ (u : Form). Some (u, c, p) ≡ opened b) is e
 
 pub record KeysRead (r : Option (List (List ℕ) × Place)) (f : Found) (q : Place) : Type 0 where
   pub names : List (List ℕ)

@@ -1,12 +1,14 @@
 -- Groups by their bytes.
 use Rattle.std.proofs.Common.{◌≡◌, ℕ, zero, suc, ◌+◌, ◌-◌, ◌*◌, ◌%◌, ◌^◌, ◌<◌, ◌≤◌, Bool, true, false, ltb, leb, List, [], ◌∷◌, length, get_or, Option, Some, None, refl, sym, ap, subst, ◌∙◌, arith, inl, inr}
 use Rattle.std.specs.Prelude.{◌&&◌, option_map, not, ◌==◌}
-use Rattle.std.proofs.lemmas.Bool.{cases_lt, le-leb, lt-leb, ltb-true}
-use Rattle.jsonb_layout.specs.Narrow.{is_narrow}
-use Rattle.jsonb_layout.specs.Numeric.{Header, all_below, are_groups}
-use Rattle.jsonb_layout.specs.Reading.{◌>>=◌, only_if, groups_of, value_of, varlena_of, header_of, numeric_of}
-use Rattle.jsonb.specs.NumberViews.{all_fit, groups_fit_of, rest_of}
-use Rattle.jsonb_layout.proofs.Tools.{bind_some, some_is, and_both}
+use Rattle.std.proofs.lemmas.Bool.{cases_lt, le-leb, lt-leb, ltb-true, and_parts}
+use Rattle.jsonb_layout.specs.inner.Narrow.{is_narrow}
+use Rattle.jsonb_layout.specs.Numeric.{all_below, are_groups}
+use Rattle.jsonb_layout.specs.declared.header.Header.{Header}
+use Rattle.jsonb_layout.specs.Options.{◌>>=◌, only_if}
+use Rattle.jsonb_layout.specs.inner.Reading.{groups_of, value_of, varlena_of, header_of, numeric_of}
+use Rattle.jsonb.specs.inner.Groups.{all_fit, groups_fit_of, rest_of}
+use Rattle.jsonb_layout.proofs.Tools.{bind_some, some_is}
 use Rattle.jsonb_layout.proofs.Theory.{Ends, fits_in, decided}
 
 pub record Reads (b gs : List ℕ) : Type 0 where
@@ -77,8 +79,8 @@ zero_none h (x ∷ b) e l = absurd cc
 
 below_at : (gs : List ℕ) (i : ℕ) → all_below gs ≡ true → i < length gs → get_or gs i 1 < 10000
 below_at [] i h lt = absurd (omega arith)
-below_at (g ∷ gs) zero h lt = ltb-true g 10000 (and_both (ltb g 10000) (all_below gs) h).0
-below_at (g ∷ gs) (suc i) h lt = below_at gs i (and_both (ltb g 10000) (all_below gs) h).1 (omega arith)
+below_at (g ∷ gs) zero h lt = ltb-true g 10000 (and_parts (ltb g 10000) (all_below gs) h).0
+below_at (g ∷ gs) (suc i) h lt = below_at gs i (and_parts (ltb g 10000) (all_below gs) h).1 (omega arith)
 
 abbrev pub two_at : List ℕ → ℕ → ℕ
 two_at b i = get_or b i 0 + 256 * get_or b (i + 1) 0

@@ -6,11 +6,12 @@ use Rattle.json_model.specs.Decimal.{Decimal}
 use Rattle.json_model.specs.Tree.{Scalar, null, boolean, number, string, Tree, scalar, array, object, Elements, Members}
 use Rattle.json_model.specs.Parts.{as_string, as_boolean, is_null, is_number, is_string, if_object, if_array, if_number}
 use Rattle.json_traits.specs.Identities.{if_container}
-use Rattle.jsonb_layout.specs.Reading.{◌>>=◌, numeric_of}
-use Rattle.jsonb_layout.specs.Trees.{read}
+use Rattle.jsonb_layout.specs.Options.{◌>>=◌}
+use Rattle.jsonb_layout.specs.inner.Reading.{numeric_of}
+use Rattle.jsonb_layout.specs.inner.Trees.{read}
 use Rattle.jsonb_layout.proofs.Shapes.{read_no_scalar}
 use Rattle.jsonb.specs.Found.{text_found}
-use Rattle.jsonb.specs.Values.{value_of, or_null, is_clean, IsJsonTree}
+use Rattle.jsonb.specs.inner.Values.{value_of, or_null, is_clean, IsJsonTree}
 use Rattle.jsonb.specs.declared.kind.Kind.{Kind}
 use Rattle.jsonb.specs.declared.kind.Kind.TheVariants as kinds
 

@@ -2,6 +2,7 @@ pub mod Texts
 pub mod Groups
 pub mod FoundLaws
 pub mod KeyLoop
+pub mod Walks
 pub mod FrameLaws
 pub mod StepLaws
 pub mod TreeCauses

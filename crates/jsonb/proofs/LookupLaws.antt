@@ -4,47 +4,23 @@ use Rattle.std.specs.Prelude.{bytes_eq}
 use Rattle.json_model.specs.Parts.{pairs_in, pairs_of, lookup}
 use Rattle.json_model.specs.Tree.{Tree, object, Elements, element, Members, member}
 use Rattle.jsonb_layout.specs.Layout.{Item}
-use Rattle.jsonb_layout.specs.Reading.{◌>>=◌, Place, item_at}
-use Rattle.jsonb_layout.specs.SeatReading.{seat_at}
+use Rattle.jsonb_layout.specs.Options.{◌>>=◌}
+use Rattle.jsonb_layout.specs.inner.Reading.{Place, item_at}
+use Rattle.jsonb_layout.specs.inner.SeatReading.{seat_at}
 use Rattle.jsonb_layout.specs.Seats.{Seat}
-use Rattle.jsonb_layout.specs.Trees.{elements_by, members, read, item_tree}
-use Rattle.jsonb_layout.proofs.Tools.{bind_some, some_is}
+use Rattle.jsonb_layout.specs.inner.Trees.{elements_by, members, read, item_tree}
+use Rattle.jsonb_layout.proofs.Tools.{bind_some, some_is, some}
 use Rattle.jsonb.specs.Found.{text_found, tree_found, members_found, both}
-use Rattle.jsonb.specs.Lookup.{behind_key}
-use Rattle.jsonb.specs.Seated.{member_seats}
-use Rattle.jsonb.specs.Values.{or_null, is_clean, IsJsonTree, object_at, names_at, skip}
+use Rattle.jsonb.specs.inner.Keys.{behind_key}
+use Rattle.jsonb.specs.Seated.{member_seats, object_seats}
+use Rattle.jsonb.specs.inner.Values.{or_null, is_clean, IsJsonTree, object_at, names_at, skip}
 use Rattle.jsonb.proofs.MemberLaws.{holds, pairs_are, keys_names, both_clean}
 use Rattle.jsonb.proofs.SeatHolds.{seats_behind, seats_behind_is}
 use Rattle.jsonb.proofs.SeatTrees.{members_step}
-
-abbrev some : {A : Type 0} → A → Option A
-some x = Some x
-
-abbrev pub some_seat : Seat → Option Seat
-some_seat s = Some s
-
--- ---- the walk over the keys
-
-module _ (k : List ℕ) (count i : ℕ) (p : Place) (total : Option Place) (so_far : behind_key k (count - i) p ≡ total) where
-  count_down : i < count → count - i ≡ suc (count - (i + 1))
-  count_down lt = omega arith
-
-  pub key_none : i < count → None ≡ item_at p → None ≡ total
-  unfolding behind_key
-  key_none lt h = let one : behind_key k (count - i) p ≡ None = rw (count_down lt, ← h) refl in sym one ∙ so_far
-
-  module _ (x : Item) (q : Place) (lt : i < count) (h : Some (x, q) ≡ item_at p) where
-    pub key_here : true ≡ bytes_eq k x.piece → Some q ≡ total
-    unfolding behind_key
-    key_here e = let one : behind_key k (count - i) p ≡ Some q = rw (count_down lt, ← h, ← e) refl in sym one ∙ so_far
-
-    pub key_on : false ≡ bytes_eq k x.piece → behind_key k (count - (i + 1)) q ≡ total
-    unfolding behind_key
-    key_on e = let one : behind_key k (count - i) p ≡ behind_key k (count - (i + 1)) q = rw (count_down lt, ← h, ← e) refl in sym one ∙ so_far
-
-  pub key_nowhere : count ≤ i → None ≡ total
-  unfolding behind_key
-  key_nowhere le = let n : count - i ≡ 0 = omega arith in let one : behind_key k (count - i) p ≡ None = rw n refl in sym one ∙ so_far
+use Rattle.jsonb.specs.inner.Views.{place}
+use Rattle.jsonb.specs.declared.object.JsonbObject.{JsonbObject}
+use Rattle.jsonb.specs.Nodes.{object_tree}
+use Rattle.jsonb.proofs.Walks.{IsBehind, behind_both, key_behind, skip_behind}
 
 -- ---- past two runs of items
 
@@ -167,36 +143,46 @@ outcome k s c p json r er =
     subst (λ (ss : List (List ℕ × Seat)). Outcome s c r (lookup k (pairs_of (or_null (object_at c p)))) (lookup k ss)) (seats_behind_is s c p o.behind (sym n.1))
     (subst (λ (ps : List (List ℕ × Tree)). Outcome s c r (lookup k ps) (lookup k (member_seats s c p o.behind))) (sym (pairs_are c p json)) found)
 
-module _ (k : List ℕ) (s c : ℕ) (p : Place) (json : IsJsonTree (object_at c p)) where
-  pub no_value : None ≡ behind_key k c p → None ≡ lookup k (pairs_of (or_null (object_at c p)))
-  no_value e = sym (outcome k s c p json None e).0
+module _ (k : List ℕ) (o : JsonbObject) where
+  abbrev pairs_here : List (List ℕ × Tree)
+  pairs_here = pairs_of (object_tree o)
 
-  pub no_seat : None ≡ behind_key k c p → None ≡ lookup k (seats_behind s c p)
-  no_seat e = sym (outcome k s c p json None e).1
+  outcome_of : (r : Option Place) → r ≡ behind_key k o.keys.count (place o.keys.start) → Outcome o.keys.payload o.keys.count r (lookup k pairs_here) (lookup k (object_seats o))
+  outcome_of r e = outcome k o.keys.payload o.keys.count (place o.keys.start) o.stands r e
 
-  module _ (a : Place) (e : Some a ≡ behind_key k c p) where
-    pub found : IsFound s c a (lookup k (pairs_of (or_null (object_at c p)))) (lookup k (seats_behind s c p))
-    found = outcome k s c p json (Some a) e
+  pub no_value : None ≡ behind_key k o.keys.count (place o.keys.start) → None ≡ lookup k (pairs_of (object_tree o))
+  no_value e = sym (outcome_of None e).0
 
-    pub some_members : 0 < c
+  pub no_seat : None ≡ behind_key k o.keys.count (place o.keys.start) → None ≡ lookup k (object_seats o)
+  no_seat e = sym (outcome_of None e).1
+
+  module _ {a : Place} (e : Some a ≡ behind_key k o.keys.count (place o.keys.start)) where
+    found : IsFound o.keys.payload o.keys.count a (lookup k pairs_here) (lookup k (object_seats o))
+    found = outcome_of (Some a) e
+
+    pub some_members : 0 < o.keys.count
     unfolding behind_key
-    some_members = go c refl
+    some_members = go o.keys.count refl
       where
-        go : (n : ℕ) → c ≡ n → 0 < c
-        go zero z = let h : ◌≡◌ {A = Option Place} (Some a) None = e ∙ ap (λ (n : ℕ). behind_key k n p) z in absurd cc
+        go : (n : ℕ) → o.keys.count ≡ n → 0 < o.keys.count
+        go zero z = let h : ◌≡◌ {A = Option Place} (Some a) None = e ∙ ap (λ (n : ℕ). behind_key k n (place o.keys.start)) z in absurd cc
         go (suc n) z = omega (arith, z)
 
-    pub passes_keys : None ≡ skip (c - 1) a → ⊥
+    pub passes_keys : None ≡ skip (o.keys.count - 1) a → ⊥
     passes_keys h = let no : ◌≡◌ {A = Option Place} None (Some found.value) = h ∙ found.passed in cc
 
-    module _ (v : Place) (f : Some v ≡ skip (c - 1) a) where
+    module _ {v : Place} (f : Some v ≡ skip (o.keys.count - 1) a) where
       at_value : found.value ≡ v
       at_value = some_is found.value v (sym found.passed ∙ sym f)
 
       pub value_goes_on : None ≡ item_at v → ⊥
       value_goes_on h = let no : ◌≡◌ {A = Option (Item × Place)} None (Some (found.item, found.after)) = h ∙ ap item_at (sym at_value) ∙ found.here in cc
 
-      module _ (y : Item) (w : Place) (h : Some (y, w) ≡ item_at v) where
+      -- the value is behind the keys, in the same container
+      pub value_behind : IsBehind (place o.keys.start) v
+      value_behind = behind_both (key_behind k o.keys.count (place o.keys.start) a e) (skip_behind (o.keys.count - 1) a v f)
+
+      module _ {y : Item} {w : Place} (h : Some (y, w) ≡ item_at v) where
         value_item : found.item ≡ y
         value_item = ap (λ (o : Item × Place). o.0) (some_is (found.item, found.after) (y, w) (sym found.here ∙ ap item_at at_value ∙ sym h))
 
@@ -206,8 +192,11 @@ module _ (k : List ℕ) (s c : ℕ) (p : Place) (json : IsJsonTree (object_at c 
         pub value_stands : IsJsonTree (item_tree v.at y)
         value_stands = subst IsJsonTree (sym value_tree) found.clean
 
-        pub value_is : item_tree v.at y ≡ lookup k (pairs_of (or_null (object_at c p)))
+        pub value_is : item_tree v.at y ≡ lookup k (pairs_of (object_tree o))
         value_is = value_tree ∙ sym found.wanted_is
 
-        pub value_seat : Some (seat_at s v y) ≡ lookup k (seats_behind s c p)
-        value_seat = ap (λ (q : Place). some (seat_at s q y)) (sym at_value) ∙ ap (λ (z : Item). some (seat_at s found.value z)) (sym value_item) ∙ sym found.seat_is
+        pub value_seat : Some (seat_at o.keys.payload v y) ≡ lookup k (object_seats o)
+        value_seat =
+            ap (λ (q : Place). some (seat_at o.keys.payload q y)) (sym at_value)
+            ∙ ap (λ (z : Item). some (seat_at o.keys.payload found.value z)) (sym value_item)
+            ∙ sym found.seat_is

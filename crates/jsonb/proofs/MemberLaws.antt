@@ -1,44 +1,30 @@
 -- Walking over the members of an object.
-use Rattle.std.proofs.Common.{◌≡◌, ℕ, zero, suc, ◌+◌, ◌-◌, ◌<◌, ◌≤◌, Bool, true, eqb, List, [], ◌∷◌, length, map, Option, Some, None, refl, sym, ap, subst, ◌∙◌, arith}
+use Rattle.std.proofs.Common.{◌≡◌, ℕ, zero, suc, ◌+◌, ◌-◌, ◌<◌, ◌≤◌, Bool, true, eqb, List, [], ◌∷◌, length, map, Option, Some, None, refl, sym, ap, subst, ◌∙◌, arith, ◌*◌}
 use Rattle.std.specs.Prelude.{IsTrue, ◌↔◌, option_map, ◌&&◌, not, ◌||◌, false}
 use Rattle.std.proofs.lemmas.Bool.{eqb-true}
 use Rattle.std.specs.Str.{is_utf8}
 use Rattle.json_model.specs.Keys.{rises}
 use Rattle.json_model.specs.Parts.{pairs_in, pairs_of, trees_in, elements_of, if_object, if_array}
 use Rattle.json_model.specs.Tree.{Tree, array, object, Elements, no_elements, element, Members}
-use Rattle.jsonb_layout.specs.Layout.{Item, Form, list, pairs, lone}
-use Rattle.jsonb_layout.specs.Reading.{◌>>=◌, only_if, Place, item_at, follows, keys_at, opened, ended}
-use Rattle.jsonb_layout.specs.Trees.{elements_by, members, held_by, read, item_tree}
+use Rattle.jsonb_layout.specs.Layout.{Item}
+use Rattle.jsonb_layout.specs.declared.form.Form.{Form}
+use Rattle.jsonb_layout.specs.declared.form.Form.TheVariants.{Array, Object, Lone}
+use Rattle.jsonb_layout.specs.Options.{◌>>=◌, only_if}
+use Rattle.jsonb_layout.specs.inner.Reading.{Place, item_at, follows, keys_at, opened, ended}
+use Rattle.jsonb_layout.specs.inner.Trees.{elements_by, members, held_by, read, item_tree}
 use Rattle.jsonb_layout.proofs.Containers.{count}
 use Rattle.jsonb_layout.proofs.Openings.{ended_is}
 use Rattle.jsonb_layout.proofs.Shapes.{elements_count, keys_count, keys_rise}
-use Rattle.jsonb_layout.proofs.Tools.{guard, bind_some, some_is}
+use Rattle.jsonb_layout.proofs.Tools.{guard, bind_some, some_is, some, less_one}
 use Rattle.jsonb_layout.proofs.Unrolled.{read_unroll}
 use Rattle.jsonb.specs.Found.{both, text_found, tree_found, members_found}
-use Rattle.jsonb.specs.Values.{or_null, is_clean, IsJsonTree, array_at, object_at, names_at, members_at, AreJsonMembers, or_no_pairs, pairs_at, skip}
+use Rattle.jsonb.specs.inner.Values.{or_null, is_clean, IsJsonTree, array_at, object_at, names_at, members_at, AreJsonMembers, or_no_pairs, pairs_at, skip}
 use Rattle.jsonb.specs.declared.found.Found.{Found}
 use Rattle.jsonb.proofs.KindLaws.{text_clean}
-
-abbrev some : Tree → Option Tree
-some t = Some t
-
--- ---- past items
-
-module _ (count i : ℕ) (p : Place) (total : Option Place) (so_far : skip (count - i) p ≡ total) where
-  count_down : i < count → count - i ≡ suc (count - (i + 1))
-  count_down lt = omega arith
-
-  pub skip_none : i < count → None ≡ item_at p → None ≡ total
-  unfolding skip
-  skip_none lt h = let one : skip (count - i) p ≡ None = rw (count_down lt, ← h) refl in sym one ∙ so_far
-
-  pub skip_on : (x : Item) (q : Place) → i < count → Some (x, q) ≡ item_at p → skip (count - (i + 1)) q ≡ total
-  unfolding skip
-  skip_on x q lt h = let one : skip (count - i) p ≡ skip (count - (i + 1)) q = rw (count_down lt, ← h) refl in sym one ∙ so_far
-
-  pub skip_done : count ≤ i → Some p ≡ total
-  unfolding skip
-  skip_done le = let k : count - i ≡ 0 = omega arith in let one : skip (count - i) p ≡ Some p = rw k refl in sym one ∙ so_far
+use Rattle.jsonb.specs.inner.Views.{place}
+use Rattle.jsonb.specs.declared.object.JsonbObject.{JsonbObject}
+use Rattle.jsonb.specs.declared.members.JsonbMembers.{JsonbMembers}
+use Rattle.jsonb.proofs.Walks.{skip_words}
 
 -- ---- a container's tree
 
@@ -52,28 +38,28 @@ module _ (b : List ℕ) (json : IsJsonTree (read b)) where
   pub opens : None ≡ opened b → ⊥
   opens e = none_never (by_opened None e)
 
-  pub not_lone : (c : ℕ) (p : Place) → Some (lone, c, p) ≡ opened b → ⊥
-  not_lone c p e = none_never (by_opened (Some (lone, c, p)) e)
+  pub not_lone : {c : ℕ} {p : Place} → Some (Lone, c, p) ≡ opened b → ⊥
+  not_lone e = none_never (by_opened _ e)
 
   there : (r : Option Tree) → IsJsonTree r → (t : Tree) × (r ≡ Some t)
   there None h = absurd cc
   there (Some t) h = (t, refl)
 
   -- an array's tree is that of its elements
-  pub array_read : (c : ℕ) (p : Place) → Some (list, c, p) ≡ opened b → (ts : Elements) × (read b ≡ Some (array ts)) × (array_at c p ≡ read b)
+  pub array_read : (c : ℕ) (p : Place) → Some (Array, c, p) ≡ opened b → (ts : Elements) × (read b ≡ Some (array ts)) × (array_at c p ≡ read b)
   array_read c p e =
       let t = there (read b) json in
-      let h = sym (by_opened (Some (list, c, p)) e) ∙ t.1 in
+      let h = sym (by_opened (Some (Array, c, p)) e) ∙ t.1 in
       let a = bind_some (elements_by read c p) (λ r. ended r.1 (array r.0)) t.0 h in
       let d = ended_is a.0.1 (array a.0.0) t.0 a.2 in
       let is : read b ≡ Some (array a.0.0) = t.1 ∙ ap some (sym d.1) in
       (a.0.0, is, ap (λ (o : Option (Elements × Place)). o >>= λ r. some (array r.0)) a.1 ∙ sym is)
 
   -- an object's tree is that of its keys and values
-  pub object_read : (c : ℕ) (p : Place) → Some (pairs, c, p) ≡ opened b → (ms : Members) × (read b ≡ Some (object ms)) × (object_at c p ≡ read b)
+  pub object_read : (c : ℕ) (p : Place) → Some (Object, c, p) ≡ opened b → (ms : Members) × (read b ≡ Some (object ms)) × (object_at c p ≡ read b)
   object_read c p e =
       let t = there (read b) json in
-      let h = sym (by_opened (Some (pairs, c, p)) e) ∙ t.1 in
+      let h = sym (by_opened (Some (Object, c, p)) e) ∙ t.1 in
       let k = bind_some (keys_at c None p) (λ k. elements_by read c k.1 >>= λ r. ended r.1 (object (members k.0 r.0))) t.0 h in
       let a = bind_some (elements_by read c k.0.1) (λ r. ended r.1 (object (members k.0.0 r.0))) t.0 k.2 in
       let d = ended_is a.0.1 (object (members k.0.0 a.0.0)) t.0 a.2 in
@@ -90,27 +76,27 @@ module _ (b : List ℕ) (json : IsJsonTree (read b)) where
 abbrev some_list : List (List ℕ × Tree) → Option (List (List ℕ × Tree))
 some_list l = Some l
 
-module _ (b : List ℕ) (json : IsJsonTree (read b)) (c : ℕ) (p : Place) where
-  pub array_stands : Some (list, c, p) ≡ opened b → IsJsonTree (array_at c p)
+module _ (b : List ℕ) (json : IsJsonTree (read b)) {c : ℕ} {p : Place} where
+  pub array_stands : Some (Array, c, p) ≡ opened b → IsJsonTree (array_at c p)
   array_stands e = subst IsJsonTree (sym (array_read b json c p e).2) json
 
-  pub array_is : Some (list, c, p) ≡ opened b → Some (or_null (array_at c p)) ≡ if_array (or_null (read b))
+  pub array_is : Some (Array, c, p) ≡ opened b → Some (or_null (array_at c p)) ≡ if_array (or_null (read b))
   array_is e =
       let a = array_read b json c p e in
       ap (λ (r : Option Tree). some (or_null r)) (a.2 ∙ a.1) ∙ ap (λ (r : Option Tree). if_array (or_null r)) (sym a.1)
 
-  pub array_no_object : Some (list, c, p) ≡ opened b → None ≡ if_object (or_null (read b))
+  pub array_no_object : Some (Array, c, p) ≡ opened b → None ≡ if_object (or_null (read b))
   array_no_object e = ap (λ (r : Option Tree). if_object (or_null r)) (sym (array_read b json c p e).1)
 
-  pub object_stands : Some (pairs, c, p) ≡ opened b → IsJsonTree (object_at c p)
+  pub object_stands : Some (Object, c, p) ≡ opened b → IsJsonTree (object_at c p)
   object_stands e = subst IsJsonTree (sym (object_read b json c p e).2) json
 
-  pub object_is : Some (pairs, c, p) ≡ opened b → Some (or_null (object_at c p)) ≡ if_object (or_null (read b))
+  pub object_is : Some (Object, c, p) ≡ opened b → Some (or_null (object_at c p)) ≡ if_object (or_null (read b))
   object_is e =
       let o = object_read b json c p e in
       ap (λ (r : Option Tree). some (or_null r)) (o.2 ∙ o.1) ∙ ap (λ (r : Option Tree). if_object (or_null r)) (sym o.1)
 
-  pub object_no_array : Some (pairs, c, p) ≡ opened b → None ≡ if_array (or_null (read b))
+  pub object_no_array : Some (Object, c, p) ≡ opened b → None ≡ if_array (or_null (read b))
   object_no_array e = ap (λ (r : Option Tree). if_array (or_null r)) (sym (object_read b json c p e).1)
 
 -- ---- lengths
@@ -206,29 +192,40 @@ empty_if c p json = go c (pairs_of (or_null (object_at c p))) (object_length c p
     go (suc n) [] e = absurd cc
     go (suc n) (p ∷ ps) e = (λ h. absurd (omega (arith, eqb-true (suc n) 0 h)), λ h. absurd cc)
 
-module _ (c : ℕ) (p : Place) (json : IsJsonTree (object_at c p)) where
-  pub passes : None ≡ skip c p → ⊥
-  passes e =
-      let o = holds c p json in
-      let h : ◌≡◌ {A = Option Place} None (Some o.behind) = e ∙ (keys_names c None p (o.names, o.behind) o.keys_are).1 in cc
+-- the values of an object begin where its keys end
+module _ (o : JsonbObject) where
+  abbrev count_of : ℕ
+  count_of = o.keys.count
 
-  module _ (q : Place) (e : Some q ≡ skip c p) where
-    members_are : members_at c p q ≡ Some (members (holds c p json).names (holds c p json).trees)
+  abbrev keys_from : Place
+  keys_from = place o.keys.start
+
+  abbrev parts : Holds count_of keys_from
+  parts = holds count_of keys_from o.stands
+
+  names_are : (names_at count_of keys_from ≡ Some (parts.names, parts.behind)) × (skip count_of keys_from ≡ Some parts.behind)
+  names_are = keys_names count_of None keys_from (parts.names, parts.behind) parts.keys_are
+
+  pub few_members : 4 * o.keys.count ≤ length (place o.keys.start).words
+  few_members = skip_words count_of keys_from parts.behind names_are.1
+
+  pub passes : None ≡ skip o.keys.count (place o.keys.start) → ⊥
+  passes e = let h : ◌≡◌ {A = Option Place} None (Some parts.behind) = e ∙ names_are.1 in cc
+
+  module _ {q : Place} (e : Some q ≡ skip o.keys.count (place o.keys.start)) where
+    members_are : members_at count_of keys_from q ≡ Some (members parts.names parts.trees)
     members_are =
-        let o = holds c p json in
-        let n = keys_names c None p (o.names, o.behind) o.keys_are in
-        let same : o.behind ≡ q = some_is o.behind q (sym n.1 ∙ sym e) in
-        ap (λ (r : Option (List (List ℕ) × Place)). r >>= λ k. elements_by read c q >>= λ r. let o : Option Members = Some (members k.0 r.0) in o) n.0
-        ∙ ap (λ (r : Option (Elements × Place)). r >>= λ r. let m : Option Members = Some (members o.names r.0) in m) (ap (elements_by read c) (sym same) ∙ o.values_are)
+        let same : parts.behind ≡ q = some_is parts.behind q (sym names_are.1 ∙ sym e) in
+        ap (λ (r : Option (List (List ℕ) × Place)). r >>= λ k. elements_by read count_of q >>= λ r. some (members k.0 r.0)) names_are.0
+        ∙ ap (λ (r : Option (Elements × Place)). r >>= λ r. some (members parts.names r.0)) (ap (elements_by read count_of) (sym same) ∙ parts.values_are)
 
-    pub members_stand : AreJsonMembers (members_at c p q)
+    pub members_stand : AreJsonMembers (members_at o.keys.count (place o.keys.start) q)
     members_stand =
-        let o = holds c p json in
-        let clean : is_clean (tree_found (object (members o.names o.trees))) ≡ true = subst IsJsonTree o.tree json in
+        let clean : is_clean (tree_found (object (members parts.names parts.trees))) ≡ true = subst IsJsonTree parts.tree o.stands in
         subst AreJsonMembers (sym members_are) clean
 
-    pub members_pairs : pairs_at c p q ≡ pairs_of (or_null (object_at c p))
-    members_pairs = ap (λ (r : Option Members). or_none r) members_are ∙ sym (pairs_are c p json)
+    pub members_pairs : pairs_at o.keys.count (place o.keys.start) q ≡ pairs_of (or_null (object_at o.keys.count (place o.keys.start)))
+    members_pairs = ap (λ (r : Option Members). or_none r) members_are ∙ sym (pairs_are count_of keys_from o.stands)
       where
         or_none : Option Members → List (List ℕ × Tree)
         or_none r = or_no_pairs (r >>= λ ms. some_list (pairs_in ms))
@@ -245,9 +242,6 @@ both_clean f g h = go f.not_text f.wide g.not_text g.wide h
     go false true false d h = absurd cc
     go false true true d h = absurd cc
     go true b c d h = absurd cc
-
-pub less_one : (n : ℕ) → 0 < n → suc (n - 1) ≡ n
-less_one n h = omega arith
 
 pub record NextMember (n : ℕ) (p q : Place) (x y : Item) (p' q' : Place) : Type 0 where
   pub name : is_utf8 x.piece ≡ true
@@ -322,18 +316,32 @@ member_there n p q json = go (item_at p) refl (item_at q) refl
     go (Some x) e None f = let h : AreJsonMembers None = subst AreJsonMembers (ap (both_of (names_at (suc n) p)) (values_none n q f) ∙ both_none (names_at (suc n) p)) json in absurd cc
     go (Some x) e (Some y) f = (x, e, (y, f))
 
-module _ (n : ℕ) (p q : Place) (some_left : 0 < n) (json : AreJsonMembers (members_at n p q)) where
-  full : AreJsonMembers (members_at (suc (n - 1)) p q)
-  full = subst (λ (k : ℕ). AreJsonMembers (members_at k p q)) (sym (less_one n some_left)) json
+module _ (m : JsonbMembers) (some_left : 0 < m.values.count) where
+  abbrev more_left : ℕ
+  more_left = m.values.count - 1
 
-  pub keys_go_on : None ≡ item_at p → ⊥
+  abbrev key_here : Place
+  key_here = place m.keys
+
+  abbrev value_here : Place
+  value_here = place m.values.start
+
+  full : AreJsonMembers (members_at (suc more_left) key_here value_here)
+  full = subst (λ (k : ℕ). AreJsonMembers (members_at k key_here value_here)) (sym (less_one m.values.count some_left)) m.stands
+
+  pub keys_go_on : None ≡ item_at (place m.keys) → ⊥
   keys_go_on e =
-      let h : AreJsonMembers None = subst AreJsonMembers (ap (λ (a : Option (List (List ℕ) × Place)). both_of a (elements_by read (suc (n - 1)) q)) (names_none (n - 1) p (sym e))) full in cc
+      let no_names = names_none more_left key_here (sym e) in
+      let h : AreJsonMembers None = subst AreJsonMembers (ap (λ (a : Option (List (List ℕ) × Place)). both_of a (elements_by read (suc more_left) value_here)) no_names) full in
+      cc
 
-  pub values_go_on : None ≡ item_at q → ⊥
+  pub values_go_on : None ≡ item_at (place m.values.start) → ⊥
   values_go_on e =
-      let h : AreJsonMembers None = subst AreJsonMembers (ap (both_of (names_at (suc (n - 1)) p)) (values_none (n - 1) q (sym e)) ∙ both_none (names_at (suc (n - 1)) p)) full in cc
+      let names = names_at (suc more_left) key_here in
+      let no_values = values_none more_left value_here (sym e) in
+      let h : AreJsonMembers None = subst AreJsonMembers (ap (both_of names) no_values ∙ both_none names) full in
+      cc
 
-  module _ (x y : Item) (p' q' : Place) (e : Some (x, p') ≡ item_at p) (f : Some (y, q') ≡ item_at q) where
-    pub member_is : NextMember (n - 1) p q x y p' q'
-    member_is = next_member (n - 1) p p' q q' x y (sym e) (sym f) full
+  pub member_is : {x y : Item} {p q : Place} → Some (x, p) ≡ item_at (place m.keys) → Some (y, q) ≡ item_at (place m.values.start)
+      → NextMember (m.values.count - 1) (place m.keys) (place m.values.start) x y p q
+  member_is {x = x} {y = y} {p = p} {q = q} e f = next_member more_left key_here p value_here q x y (sym e) (sym f) full

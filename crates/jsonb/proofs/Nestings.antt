@@ -4,7 +4,8 @@ use Rattle.std.specs.Int.{w32, to_le_bytes}
 use Rattle.std.proofs.lemmas.Grind.{flat_map-append}
 use Rattle.std.proofs.lemmas.List.{append_assoc, append-nil, length-append}
 use Rattle.std.proofs.Math.Seq.{take-suc}
-use Rattle.jsonb_layout.specs.Layout.{Item, words, list, Laid}
+use Rattle.jsonb_layout.specs.Layout.{Item, words, Laid}
+use Rattle.jsonb_layout.specs.declared.form.Form.TheVariants.{Array}
 use Rattle.jsonb_layout.specs.Stands.{IsItem, Stands}
 use Rattle.jsonb.specs.Nested.{nested_arrays, nested_bytes}
 
@@ -58,7 +59,7 @@ is_inside : (n : ℕ) → Stands (nested_bytes n) (nested_arrays n) → IsItem (
 is_inside zero h = (refl, (nested_bytes zero, refl, h))
 is_inside (suc n) h = (refl, (nested_bytes (suc n), refl, h))
 
-laid_around : (n : ℕ) → n < 2 ^ 25 → Laid (nested_bytes (suc n)) list (around n ∷ [])
+laid_around : (n : ℕ) → n < 2 ^ 25 → Laid (nested_bytes (suc n)) Array (around n ∷ [])
 laid_around n lt =
     let size : 8 * n + 4 ≡ 0 + length (nested_bytes n) = omega (arith, nested_length n) in
     record {

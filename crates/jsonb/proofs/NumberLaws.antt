@@ -4,7 +4,7 @@ use mir.Val.{SFits}
 use Rattle.std.specs.Prelude.{◌&&◌, ◌*ℤ◌}
 use Rattle.std.specs.Int.{w16, from_le_bytes}
 use Rattle.std.proofs.lemmas.Nat.{pow-add}
-use Rattle.std.proofs.lemmas.Bool.{ltb-true}
+use Rattle.std.proofs.lemmas.Bool.{ltb-true, and_parts}
 use Rattle.std.proofs.lemmas.Int.{to_z-of_z}
 use Rattle.json_model.specs.Decimal.{Decimal, HasNarrowDigits, IsNarrow}
 use Rattle.json_model.specs.Tree.{number, scalar}
@@ -15,12 +15,14 @@ use Rattle.json_exact.specs.DecimalInverseLaws.{abs_signed}
 use Rattle.json_exact.specs.NumberInverseLaws.{signed_times}
 use Rattle.json_exact.proofs.NarrowLaws.{narrow_more}
 use Rattle.json_exact.proofs.WorthLaws.{one_record}
-use Rattle.jsonb_layout.specs.Numeric.{Header, joined, all_below, are_groups, IsValue}
-use Rattle.jsonb_layout.specs.Reading.{◌>>=◌, only_if, varlena_of, header_of, header_with, short_of, long_of, groups_of, value_of, numeric_of}
-use Rattle.jsonb_layout.proofs.Tools.{guard, chosen, bind_some, some_is, and_both}
+use Rattle.jsonb_layout.specs.Numeric.{joined, all_below, are_groups, IsValue}
+use Rattle.jsonb_layout.specs.declared.header.Header.{Header}
+use Rattle.jsonb_layout.specs.Options.{◌>>=◌, only_if}
+use Rattle.jsonb_layout.specs.inner.Reading.{varlena_of, header_of, header_with, short_of, long_of, groups_of, value_of, numeric_of}
+use Rattle.jsonb_layout.proofs.Tools.{guard, chosen, bind_some, some_is}
 use Rattle.jsonb_layout.proofs.Numbers.{value_takes}
 use Rattle.jsonb.proofs.TreeCauses.{json_of}
-use Rattle.jsonb.specs.Values.{value_of as tree_at, or_null, IsJsonTree}
+use Rattle.jsonb.specs.inner.Values.{value_of as tree_at, or_null, IsJsonTree}
 use Rattle.jsonb.specs.declared.kind.Kind.TheVariants as kinds
 
 -- ---- the bytes of the groups
@@ -42,7 +44,7 @@ same_groups (x ∷ []) gs e h = absurd cc
 same_groups (x ∷ y ∷ b) gs e h =
     let a = bind_some (groups_of b) (λ gs. Some ((x + 256 * y) ∷ gs)) gs e in
     let is : (x + 256 * y) ∷ a.0 ≡ gs = some_is ((x + 256 * y) ∷ a.0) gs a.2 in
-    let t = and_both (ltb (x + 256 * y) 10000) (all_below a.0) (ap all_below is ∙ h) in
+    let t = and_parts (ltb (x + 256 * y) 10000) (all_below a.0) (ap all_below is ∙ h) in
     let more = same_groups b a.0 a.1 t.1 in
     record { same = ap (λ (gs : List ℕ). (x + 256 * y) ∷ gs) more.same ∙ is; are = (ltb-true (x + 256 * y) 10000 t.0, more.are) }
 
@@ -126,7 +128,7 @@ pub record Says (h : Header) (weight : ℤ) (b : List ℕ) (d : Decimal) : Type 
 
 says : (h : Header) (weight : ℤ) (b gs : List ℕ) (d : Decimal) → lifted weight ≡ h.lift → h.dscale < 2 ^ 14 → groups_of b ≡ Some gs → are_groups gs ≡ true → value_of h gs ≡ Some d → IsNarrow d → Says h weight b d
 says h weight b gs d lift fits e fit value narrow =
-    let below = (and_both (all_below gs) (ltb 0 (get_or gs 0 1)) (and_both (all_below gs && ltb 0 (get_or gs 0 1)) (ltb 0 (get_or gs (length gs - 1) 1)) fit).0).0 in
+    let below = (and_parts (all_below gs) (ltb 0 (get_or gs 0 1)) (and_parts (all_below gs && ltb 0 (get_or gs 0 1)) (ltb 0 (get_or gs (length gs - 1) 1)) fit).0).0 in
     let same = same_groups b gs e below in
     let v = value_takes h gs d value in
     let few : h.dscale ≤ 16383 = omega arith in

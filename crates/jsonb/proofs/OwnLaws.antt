@@ -4,16 +4,17 @@ use Rattle.std.proofs.lemmas.Bool.{eq-eqb, ne_eqb, lt-ltb, cases_lt}
 use Rattle.std.proofs.lemmas.List.{length-append, length-replicate, length-drop}
 use Rattle.json_model.specs.Decimal.{Decimal}
 use Rattle.json_model.specs.Tree.{Scalar, null, boolean, number, string, Tree, scalar}
-use Rattle.jsonb_layout.specs.Layout.{Item}
-use Rattle.jsonb_layout.specs.Reading.{◌>>=◌, only_if, pad, unpadded, numeric_of, scalar_of}
+use Rattle.jsonb_layout.specs.Layout.{Item, pad}
+use Rattle.jsonb_layout.specs.Options.{◌>>=◌, only_if}
+use Rattle.jsonb_layout.specs.inner.Reading.{unpadded, numeric_of, scalar_of}
 use Rattle.jsonb_layout.specs.Stands.{padding}
-use Rattle.jsonb_layout.specs.Trees.{item_tree}
+use Rattle.jsonb_layout.specs.inner.Trees.{item_tree}
 use Rattle.jsonb_layout.proofs.Scalars.{unpadded_takes}
-use Rattle.jsonb_layout.proofs.Tools.{some_is}
-use Rattle.jsonb_layout.specs.SeatReading.{seat_of}
+use Rattle.jsonb_layout.proofs.Tools.{some_is, some}
+use Rattle.jsonb_layout.specs.inner.SeatReading.{seat_of}
 use Rattle.jsonb_layout.specs.Seats.{Seat, own_bytes, where_it_is}
 use Rattle.jsonb.specs.Seated.{seat_tree}
-use Rattle.jsonb.specs.Values.{value_of, IsJsonTree, is_short, or_null, kind_number, kind_of, own_of, HasPad}
+use Rattle.jsonb.specs.inner.Values.{value_of, IsJsonTree, is_short, or_null, kind_number, kind_of, own_of, HasPad}
 use Rattle.jsonb.specs.declared.kind.Kind.{Kind}
 use Rattle.jsonb.specs.declared.kind.Kind.TheVariants as kinds
 
@@ -44,9 +45,6 @@ padded_by k at x e json = go (unpadded at x.piece) refl (subst IsJsonTree e json
     go : (r : Option (List ℕ)) → unpadded at x.piece ≡ r → IsJsonTree (r >>= value_of k) → Padded k at x
     go None u h = absurd cc
     go (Some q) u h = end q u (value_of k q) refl h
-
-abbrev some_tree : Tree → Option Tree
-some_tree t = Some t
 
 abbrev pub seat_by : ℕ → ℕ → List ℕ → Seat
 seat_by at kind bytes = record { at = at; kind = kind; bytes = bytes }
@@ -145,8 +143,8 @@ module _ (at : ℕ) (x : Item) (json : IsJsonTree (item_tree at x)) where
   pub seat_has_tree : (word begin : ℕ) → Some (seat_tree (seat_of word begin at x)) ≡ item_tree at x
   seat_has_tree word begin =
       let k = kind_found in
-      ap (λ (r : Option Kind). some_tree (or_null (r >>= λ k. value_of k (own_bytes at x)))) k.1
-      ∙ ap (λ (b : List ℕ). some_tree (or_null (value_of k.0 b))) k.2.own
+      ap (λ (r : Option Kind). some (or_null (r >>= λ k. value_of k (own_bytes at x)))) k.1
+      ∙ ap (λ (b : List ℕ). some (or_null (value_of k.0 b))) k.2.own
       ∙ k.2.owned.same
 
   pub kind_there : None ≡ kind_of x.kind → ⊥

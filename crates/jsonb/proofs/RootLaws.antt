@@ -4,21 +4,24 @@ use Rattle.std.specs.Prelude.{Result, Ok, Err, IfOk, IsSomeAnd, option_map}
 use Rattle.std.proofs.lemmas.Bool.{ne_eqb}
 use Rattle.json_model.specs.Nest.{nest}
 use Rattle.json_model.specs.Tree.{Scalar, Tree, scalar}
-use Rattle.jsonb_layout.specs.Layout.{Item, Form, list, pairs, lone}
-use Rattle.jsonb_layout.specs.Reading.{◌>>=◌, Place, scalar_of, opened, lone_in, lone_item}
+use Rattle.jsonb_layout.specs.Layout.{Item}
+use Rattle.jsonb_layout.specs.declared.form.Form.{Form}
+use Rattle.jsonb_layout.specs.declared.form.Form.TheVariants.{Array, Object, Lone}
+use Rattle.jsonb_layout.specs.Options.{◌>>=◌}
+use Rattle.jsonb_layout.specs.inner.Reading.{Place, scalar_of, opened, lone_in, lone_item}
 use Rattle.jsonb_layout.specs.Seats.{Seat, IsRoot, item_seat}
 use Rattle.jsonb_layout.specs.Stands.{Stands}
-use Rattle.jsonb_layout.specs.Trees.{read, held_by, root_in, tree_of, item_tree}
+use Rattle.jsonb_layout.specs.inner.Trees.{read, held_by, root_in, tree_of, item_tree}
 use Rattle.jsonb_layout.proofs.Containers.{tree_takes, tree_again}
 use Rattle.jsonb_layout.proofs.SeatRuns.{container_is_root, lone_is_root}
 use Rattle.jsonb_layout.proofs.Tools.{IsBytes, bind_some, some_is}
 use Rattle.jsonb_layout.proofs.Unrolled.{read_unroll}
 use Rattle.jsonb.specs.Found.{tree_found, scalar_found}
 use Rattle.jsonb.specs.Nodes.{node_tree}
-use Rattle.jsonb.specs.Reads.{lone_tree, Reads}
+use Rattle.jsonb.specs.inner.Reads.{lone_tree, Reads}
 use Rattle.jsonb.specs.Root.{Cause, IsRead, read_tree}
 use Rattle.jsonb.specs.Seated.{node_seat}
-use Rattle.jsonb.specs.Values.{is_clean, IsJsonTree}
+use Rattle.jsonb.specs.inner.Values.{is_clean, IsJsonTree}
 use Rattle.jsonb.specs.declared.error.JsonbError.{JsonbError}
 use Rattle.jsonb.specs.declared.error.JsonbError.TheVariants as errors
 use Rattle.jsonb.specs.declared.found.Found.{Found}
@@ -60,10 +63,10 @@ lone_root b x e =
     ∙ ap (λ (f : Form). root_in f b) lone_is
     ∙ ap (λ (r : Option Item). r >>= λ x. lone_tree x) (again o)
   where
-    form_is : (f : Form) (p : Place) → lone_in f p ≡ Some x → f ≡ lone
-    form_is list p e = absurd cc
-    form_is pairs p e = absurd cc
-    form_is lone p e = refl
+    form_is : (f : Form) (p : Place) → lone_in f p ≡ Some x → f ≡ Lone
+    form_is Array p e = absurd cc
+    form_is Object p e = absurd cc
+    form_is Lone p e = refl
 
     again : (o : (o : Form × ℕ × Place) × (opened b ≡ Some o) × (lone_in o.0 o.2 ≡ Some x)) → lone_item b ≡ Some x
     again o = sym e
@@ -74,9 +77,9 @@ unfolding tree_of lone_item
 no_lone_root b e = go (opened b) refl
   where
     by : (f : Form) (c : ℕ) (p : Place) → opened b ≡ Some (f, c, p) → root_in f b ≡ read b
-    by list c p h = refl
-    by pairs c p h = refl
-    by lone c p h =
+    by Array c p h = refl
+    by Object c p h = refl
+    by Lone c p h =
         ap (λ (r : Option Item). r >>= λ x. lone_tree x) (sym e)
         ∙ sym (read_unroll b ∙ ap (λ (r : Option (Form × ℕ × Place)). r >>= λ o. held_by read o.0 o.1 o.2) h)
 

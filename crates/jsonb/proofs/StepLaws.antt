@@ -5,24 +5,24 @@ use Rattle.std.proofs.lemmas.List.{append-nil}
 use Rattle.json_model.specs.Tree.{Tree}
 use Rattle.json_model.specs.Nest.{nest}
 use Rattle.jsonb_layout.specs.Layout.{Item}
-use Rattle.jsonb_layout.specs.Reading.{Place, size, item_at}
-use Rattle.jsonb_layout.specs.Trees.{read, item_tree, elements_by}
+use Rattle.jsonb_layout.specs.inner.Reading.{Place, size, item_at}
+use Rattle.jsonb_layout.specs.inner.Trees.{read, item_tree, elements_by}
 use Rattle.jsonb_layout.proofs.Sizes.{item_size}
 use Rattle.jsonb.specs.declared.found.Found.{Found}
 use Rattle.jsonb.specs.declared.frame.Frame.{Frame}
 use Rattle.jsonb.specs.declared.error.JsonbError.{JsonbError}
 use Rattle.jsonb.specs.declared.error.JsonbError.TheVariants as errors
 use Rattle.jsonb.specs.Found.{nothing, both, tree_found}
-use Rattle.jsonb.specs.Frames.{combine, container_found, rest_found, frame_found, frames_found, next_found, HoldsScalars, frames_weight, next_weight, IsInside, SuspendCause, StaysFlat, Moves, StepCause, Searched}
-use Rattle.jsonb.specs.Views.{place}
+use Rattle.jsonb.specs.inner.Frames.{combine, container_found, rest_found, frame_found, frames_found, next_found, HoldsScalars, frames_weight, next_weight, IsInside, SuspendCause, StaysFlat, Moves, StepCause, Searched}
+use Rattle.jsonb.specs.inner.Views.{place}
 use Rattle.jsonb.proofs.FoundLaws.{combine_none, combine_assoc, combine_nothing, nothing_combine, combine_some}
 use Rattle.jsonb.proofs.FrameLaws.{at_end, rest_none, rest_some, stays_flat, no_inside, put_off}
 
 -- ---- a frame of which nothing is left
 
-module _ (frame : Frame) (old new : List Frame) (none : frame.left ≡ 0) (over : length (place frame.position).rest ≡ 0) where
+module _ (frame : Frame) (old new : List Frame) (none : frame.left ≡ 0) (over : length (place frame.start).rest ≡ 0) where
   ended_frame : frame_found frame ≡ Some nothing
-  ended_frame = at_end frame.left (place frame.position) none over
+  ended_frame = at_end frame.left (place frame.start) none over
 
   popped_from : (next : Option Frame) → frames_found old ≡ combine (next_found next) (frames_found new) → next_weight next + frames_weight new ≡ frames_weight old → (next ≡ None → new ≡ []) → StaysFlat frame old new next → Moves frame old new nothing next
   popped_from next e w last flat = record {
@@ -43,24 +43,24 @@ module _ (frame : Frame) (old new : List Frame) (none : frame.left ≡ 0) (over 
 
 -- ---- a frame of which something is left
 
-module _ (frame : Frame) (x : Item) (q : Place) (some : frame.left ≡ 0 → ⊥) (reads : Some (x, q) ≡ item_at (place frame.position)) where
+module _ (frame : Frame) (x : Item) (q : Place) (some : frame.left ≡ 0 → ⊥) (reads : Some (x, q) ≡ item_at (place frame.start)) where
   more : 0 < frame.left
   more = omega arith
 
-  size_left : size q + length x.piece + 4 ≤ size (place frame.position)
-  size_left = item_size (place frame.position) q x (sym reads)
+  size_left : size q + length x.piece + 4 ≤ size (place frame.start)
+  size_left = item_size (place frame.start) q x (sym reads)
 
-  no_inside_there : (g : Found) → frame_found frame ≡ Some g → HoldsScalars frame → IsInside (place frame.position).at x → ⊥
-  no_inside_there g there flat inside = no_inside frame.left (place frame.position) q x more reads g there flat inside
+  no_inside_there : (g : Found) → frame_found frame ≡ Some g → HoldsScalars frame → IsInside (place frame.start).at x → ⊥
+  no_inside_there g there flat inside = no_inside frame.left (place frame.start) q x more reads g there flat inside
 
-  module _ (f : Found) (inner : Option Frame) (is : option_map tree_found (item_tree (place frame.position).at x) ≡ combine (Some f) (next_found inner)) where
+  module _ (f : Found) (inner : Option Frame) (is : option_map tree_found (item_tree (place frame.start).at x) ≡ combine (Some f) (next_found inner)) where
     value_is : frame_found frame ≡ combine (Some f) (combine (next_found inner) (rest_found (frame.left - 1) q))
     value_is =
-        rest_some frame.left (place frame.position) more x q reads
+        rest_some frame.left (place frame.start) more x q reads
         ∙ ap (λ (a : Option Found). combine a (rest_found (frame.left - 1) q)) is
         ∙ combine_assoc (Some f) (next_found inner) (rest_found (frame.left - 1) q)
 
-    pub took_scalar : (old : List Frame) (rest : Frame) → rest.left ≡ frame.left - 1 → place rest.position ≡ q → inner ≡ None → Moves frame old old f (Some rest)
+    pub took_scalar : (old : List Frame) (rest : Frame) → rest.left ≡ frame.left - 1 → place rest.start ≡ q → inner ≡ None → Moves frame old old f (Some rest)
     took_scalar old rest left at none =
         let rest_is : rest_found (frame.left - 1) q ≡ frame_found rest = ap (λ (n : ℕ). rest_found n q) (sym left) ∙ ap (rest_found rest.left) (sym at) in
         record {
@@ -72,10 +72,10 @@ module _ (frame : Frame) (x : Item) (q : Place) (some : frame.left ≡ 0 → ⊥
               ∙ combine_assoc (Some f) (frame_found rest) (frames_found old);
           smaller = omega (arith, ap size at, size_left);
           last = λ h. absurd cc;
-          flat = λ g there flat o. (o, λ r h. stays_flat frame.left (place frame.position) q x more reads g there flat r (ap (λ (n : ℕ). elements_by read n q) (sym left) ∙ ap (elements_by read rest.left) (sym at) ∙ h));
+          flat = λ g there flat o. (o, λ r h. stays_flat frame.left (place frame.start) q x more reads g there flat r (ap (λ (n : ℕ). elements_by read n q) (sym left) ∙ ap (elements_by read rest.left) (sym at) ∙ h));
         }
 
-    pub took_inside : (old new : List Frame) (i : Frame) → inner ≡ Some i → IsInside (place frame.position).at x → next_weight inner ≤ length x.piece → frames_found new ≡ combine (rest_found (frame.left - 1) q) (frames_found old) → frames_weight new ≤ size q + 1 + frames_weight old → Moves frame old new f (Some i)
+    pub took_inside : (old new : List Frame) (i : Frame) → inner ≡ Some i → IsInside (place frame.start).at x → next_weight inner ≤ length x.piece → frames_found new ≡ combine (rest_found (frame.left - 1) q) (frames_found old) → frames_weight new ≤ size q + 1 + frames_weight old → Moves frame old new f (Some i)
     took_inside old new i is_there inside weight e w = record {
       so_far =
           ap (λ (a : Option Found). combine a (frames_found old)) value_is
@@ -86,7 +86,7 @@ module _ (frame : Frame) (x : Item) (q : Place) (some : frame.left ≡ 0 → ⊥
       flat = λ g there flat o. absurd (no_inside_there g there flat inside);
     }
 
-    pub not_put_off : (e : JsonbError) → IsInside (place frame.position).at x → SuspendCause (rest_found (frame.left - 1) q) e → StepCause frame e
+    pub not_put_off : (e : JsonbError) → IsInside (place frame.start).at x → SuspendCause (rest_found (frame.left - 1) q) e → StepCause frame e
     not_put_off errors.Malformed inside h = value_is ∙ ap (λ (a : Option Found). combine (Some f) (combine (next_found inner) a)) h ∙ ap (combine (Some f)) (combine_none (next_found inner))
     not_put_off errors.NotText inside h = h
     not_put_off errors.NumberTooWide inside h = h
@@ -96,11 +96,11 @@ pub inside_is : (inner : Option Frame) (i : Frame) (P : Type 0) → inner ≡ So
 inside_is None i P e h = absurd cc
 inside_is (Some j) i P e h = h
 
-pub refused_item : (frame : Frame) (x : Item) (q : Place) → (frame.left ≡ 0 → ⊥) → Some (x, q) ≡ item_at (place frame.position) → option_map tree_found (item_tree (place frame.position).at x) ≡ None → frame_found frame ≡ None
-refused_item frame x q some reads e = rest_some frame.left (place frame.position) (omega arith) x q reads ∙ ap (λ (a : Option Found). combine a (rest_found (frame.left - 1) q)) e
+pub refused_item : (frame : Frame) (x : Item) (q : Place) → (frame.left ≡ 0 → ⊥) → Some (x, q) ≡ item_at (place frame.start) → option_map tree_found (item_tree (place frame.start).at x) ≡ None → frame_found frame ≡ None
+refused_item frame x q some reads e = rest_some frame.left (place frame.start) (omega arith) x q reads ∙ ap (λ (a : Option Found). combine a (rest_found (frame.left - 1) q)) e
 
-pub no_item : (frame : Frame) → (frame.left ≡ 0 → ⊥) → None ≡ item_at (place frame.position) → frame_found frame ≡ None
-no_item frame some e = rest_none frame.left (place frame.position) (omega arith) e
+pub no_item : (frame : Frame) → (frame.left ≡ 0 → ⊥) → None ≡ item_at (place frame.start) → frame_found frame ≡ None
+no_item frame some e = rest_none frame.left (place frame.start) (omega arith) e
 
 -- ---- all steps
 

@@ -7,7 +7,7 @@ use Rattle.json_model.specs.Json.{ScalarIsText, ScalarIsNarrow, IsText, AreText,
 use Rattle.json_model.specs.Tree.{Scalar, null, boolean, number, string, Tree, scalar, array, object, Elements, no_elements, element, Members, no_members, member}
 use Rattle.jsonb_layout.proofs.Narrow.{narrow_takes, narrow_again}
 use Rattle.jsonb.specs.Found.{scalar_found, tree_found, elements_found, members_found}
-use Rattle.jsonb.specs.Values.{is_clean}
+use Rattle.jsonb.specs.inner.Values.{is_clean}
 use Rattle.jsonb.specs.declared.found.Found.{Found}
 
 neither : (a b : Bool) → (a || b) ≡ false → (a ≡ false) × (b ≡ false)

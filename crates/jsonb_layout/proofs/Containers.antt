@@ -4,10 +4,13 @@ use Rattle.std.proofs.lemmas.Bool.{eqb-true, ne_eqb, eq-eqb}
 use Rattle.std.proofs.lemmas.List.{length-append, append-nil, length-map}
 use Rattle.std.proofs.lemmas.List.Concat.{flat_map-append}
 use Rattle.json_model.specs.Tree.{Scalar, null, boolean, number, string, Tree, scalar, array, object, Elements, no_elements, element, Members, no_members, member, keys}
-use Rattle.jsonb_layout.specs.Layout.{Item, pieces, entries, words, Form, list, pairs, lone, flags, Laid}
+use Rattle.jsonb_layout.specs.Layout.{Item, pieces, entries, words, flags, Laid, pad}
+use Rattle.jsonb_layout.specs.declared.form.Form.{Form}
+use Rattle.jsonb_layout.specs.declared.form.Form.TheVariants.{Array, Object, Lone}
 use Rattle.jsonb_layout.specs.Stands.{key_item, padding, IsPadded, IsScalar, IsArray, IsObject, IsItem, AreElements, AreValues, Stands}
-use Rattle.jsonb_layout.specs.Reading.{◌>>=◌, Place, pad, item_at, scalar_of, unpadded, keys_at, opened, ended, lone_item}
-use Rattle.jsonb_layout.specs.Trees.{item_by, elements_by, members, held_by, container_of, read, root_in, tree_of}
+use Rattle.jsonb_layout.specs.Options.{◌>>=◌}
+use Rattle.jsonb_layout.specs.inner.Reading.{Place, item_at, scalar_of, unpadded, keys_at, opened, ended, lone_item}
+use Rattle.jsonb_layout.specs.inner.Trees.{item_by, elements_by, members, held_by, container_of, read, root_in, tree_of}
 use Rattle.jsonb_layout.proofs.Tools.{chosen, bind_some, some_is, IsBytes, IsBytes-drop}
 use Rattle.jsonb_layout.proofs.Runs.{Run, Fit, Run-nil, Run-none, Run-cons, Run-tail, Run-append, Run-split, after, item_takes, item_again}
 use Rattle.jsonb_layout.proofs.Scalars.{scalar_takes, scalar_again, unpadded_takes, unpadded_again}
@@ -144,12 +147,12 @@ count_items (element t ts) at (x ∷ xs) h = ap suc (count_items ts (at + length
 -- ---- containers
 
 held_takes : (inside : List ℕ → Option Tree) → Takes inside → (b : List ℕ) (f : Form) (c : ℕ) (p : Place) (t : Tree) → Opens b f c p → Fit p → held_by inside f c p ≡ Some t → IsContainer t b
-held_takes inside ok b list c p t o fit e =
+held_takes inside ok b Array c p t o fit e =
     let a = bind_some (elements_by inside c p) (λ r. ended r.1 (array r.0)) t e in
     let d = ended_is a.0.1 (array a.0.0) t a.2 in
     let r = elements_take inside ok c p a.0 fit a.1 in
-    subst (λ (y : Tree). IsContainer y b) d.1 (r.items, laid_from b list c p a.0.1 r.items o r.run r.count r.count d.0, subst (λ (k : ℕ). AreElements a.0.0 k r.items) o.at r.trees)
-held_takes inside ok b pairs c p t o fit e =
+    subst (λ (y : Tree). IsContainer y b) d.1 (r.items, laid_from b Array c p a.0.1 r.items o r.run r.count r.count d.0, subst (λ (k : ℕ). AreElements a.0.0 k r.items) o.at r.trees)
+held_takes inside ok b Object c p t o fit e =
     let k = bind_some (keys_at c None p) (λ k. elements_by inside c k.1 >>= λ r. ended r.1 (object (members k.0 r.0))) t e in
     let a = bind_some (elements_by inside c k.0.1) (λ r. ended r.1 (object (members k.0.0 r.0))) t k.2 in
     let d = ended_is a.0.1 (object (members k.0.0 a.0.0)) t a.2 in
@@ -160,9 +163,9 @@ held_takes inside ok b pairs c p t o fit e =
     let n : length all ≡ 2 * c = omega (arith, length-append (map key_item k.0.0) r.items, length-map k.0.0 key_item, ks.count, r.count) in
     let at : k.0.1.at ≡ length (pieces (map key_item k.0.0)) = omega (arith, ks.run.at, o.at) in
     let same : length k.0.0 ≡ count a.0.0 = omega (arith, ks.count, r.count, count_items a.0.0 k.0.1.at r.items r.trees) in
-    let object_is : IsObject k.0.0 (AreValues (members k.0.0 a.0.0)) b = (r.items, laid_from b pairs c p a.0.1 all o run n n d.0, ks.rise, values_are k.0.0 a.0.0 _ r.items same (subst (λ (i : ℕ). AreElements a.0.0 i r.items) at r.trees)) in
+    let object_is : IsObject k.0.0 (AreValues (members k.0.0 a.0.0)) b = (r.items, laid_from b Object c p a.0.1 all o run n n d.0, ks.rise, values_are k.0.0 a.0.0 _ r.items same (subst (λ (i : ℕ). AreElements a.0.0 i r.items) at r.trees)) in
     subst (λ (y : Tree). IsContainer y b) d.1 (subst (λ (m : List (List ℕ)). IsObject m (AreValues (members k.0.0 a.0.0)) b) (sym (keys_are k.0.0 a.0.0 same)) object_is)
-held_takes inside ok b lone c p t o fit e = absurd cc
+held_takes inside ok b Lone c p t o fit e = absurd cc
 
 pub container_takes : (fuel : ℕ) → Takes (container_of fuel)
 unfolding container_of
@@ -182,16 +185,16 @@ unfolding container_of
 container_again zero b t lt h = absurd (omega arith)
 container_again (suc fuel) b (scalar s) lt h = absurd h
 container_again (suc fuel) b (array ts) lt (xs, l, are) =
-    let o = open_again b list l.count (first xs) (opens_from b list xs l) in
-    let less = inside_less b list xs l in
+    let o = open_again b Array l.count (first xs) (opens_from b Array xs l) in
+    let less = inside_less b Array xs l in
     let n : l.count ≡ count ts = sym l.counted ∙ sym (count_items ts 0 xs are) in
     rw (o, n, elements_again (container_of fuel) fuel (container_again fuel) ts (first xs) (last xs) xs (run_over xs l.kinds) (omega (arith, l.pieces_fit)) (omega arith) are) refl
 container_again (suc fuel) b (object ms) lt (xs, l, rise, are) =
     let ks = keys ms in
     let ts = values_of ms in
     let all = map key_item ks ++ xs in
-    let less = inside_less b pairs all l in
-    let o = open_again b pairs l.count (first all) (opens_from b pairs all l) in
+    let less = inside_less b Object all l in
+    let o = open_again b Object l.count (first all) (opens_from b Object all l) in
     let split = Run-split (map key_item ks) xs (first all) (last all) (run_over all l.kinds) in
     let m = split.0 in
     let at : m.at ≡ length (pieces (map key_item ks)) = omega (arith, split.1.at) in
@@ -216,9 +219,9 @@ unfolding read
 read_again b t h = container_again (suc (length b)) b t (omega arith) h
 
 root_in_takes : (f : Form) (b : List ℕ) (t : Tree) → IsBytes b → root_in f b ≡ Some t → Stands b t
-root_in_takes list b t fits e = read_takes b t fits e
-root_in_takes pairs b t fits e = read_takes b t fits e
-root_in_takes lone b t fits e =
+root_in_takes Array b t fits e = read_takes b t fits e
+root_in_takes Object b t fits e = read_takes b t fits e
+root_in_takes Lone b t fits e =
     let a = bind_some (lone_item b) (λ x. scalar_of 0 x >>= λ s. Some (scalar s)) t e in
     let s = bind_some (scalar_of 0 a.0) (λ s. Some (scalar s)) t a.2 in
     let l = lone_takes b a.0 fits a.1 in
@@ -235,9 +238,9 @@ tree_takes b t fits e =
 pub tree_again : (b : List ℕ) (t : Tree) → Stands b t → tree_of b ≡ Some t
 unfolding tree_of
 tree_again b (scalar s) (x, l, h) =
-    rw (open_again b lone l.count (first (x ∷ [])) (opens_from b lone (x ∷ []) l), lone_again b x l, scalar_again 0 x s h) refl
-tree_again b (array ts) h = rw (open_again b list h.1.count (first h.0) (opens_from b list h.0 h.1)) (read_again b (array ts) h)
-tree_again b (object ms) h = rw (open_again b pairs h.1.count (first _) (opens_from b pairs _ h.1)) (read_again b (object ms) h)
+    rw (open_again b Lone l.count (first (x ∷ [])) (opens_from b Lone (x ∷ []) l), lone_again b x l, scalar_again 0 x s h) refl
+tree_again b (array ts) h = rw (open_again b Array h.1.count (first h.0) (opens_from b Array h.0 h.1)) (read_again b (array ts) h)
+tree_again b (object ms) h = rw (open_again b Object h.1.count (first _) (opens_from b Object _ h.1)) (read_again b (object ms) h)
 
 -- Bytes stand for one tree.
 pub one_tree : (b : List ℕ) (t u : Tree) → Stands b t → Stands b u → t ≡ u

@@ -4,8 +4,9 @@ use Rattle.std.specs.Prelude.{if◌then◌else◌}
 use Rattle.std.proofs.lemmas.Bool.{ne_eqb}
 use Rattle.std.proofs.lemmas.List.{length-append, length-drop}
 use Rattle.std.proofs.lemmas.List.Concat.{flat_map-append}
-use Rattle.jsonb_layout.specs.Layout.{Item, pieces, entries, words, Form, list, pairs, lone, flags, Laid}
-use Rattle.jsonb_layout.specs.Reading.{pad}
+use Rattle.jsonb_layout.specs.Layout.{Item, pieces, entries, words, flags, Laid, pad}
+use Rattle.jsonb_layout.specs.declared.form.Form.{Form}
+use Rattle.jsonb_layout.specs.declared.form.Form.TheVariants.{Array, Object, Lone}
 use Rattle.jsonb_layout.specs.Seats.{Seat, is_padded, own_bytes, where_it_is, item_seat, AreKeys, Holds}
 use Rattle.jsonb_layout.proofs.OneLayout.{one_layout}
 use Rattle.jsonb_layout.proofs.Openings.{length-words, length-entries}
@@ -168,9 +169,9 @@ one_child s f g xs us ys vs x y c d h k n =
 -- ---- by number
 
 keys_alike : (f : Form) (ks xs js ys : List Item) → AreKeys f ks xs → AreKeys f js ys → ks ++ xs ≡ js ++ ys → length ks ≡ length js
-keys_alike list ks xs js ys a b e = ap length a ∙ sym (ap length b)
-keys_alike pairs ks xs js ys a b e = omega (arith, a, b, ap length e, length-append ks xs, length-append js ys)
-keys_alike lone ks xs js ys a b e = absurd a
+keys_alike Array ks xs js ys a b e = ap length a ∙ sym (ap length b)
+keys_alike Object ks xs js ys a b e = omega (arith, a, b, ap length e, length-append ks xs, length-append js ys)
+keys_alike Lone ks xs js ys a b e = absurd a
 
 -- before two values there are as many keys
 same_keys : (s : Seat) (i j : ℕ) (c d : Seat) (h : Holds s i c) (k : Holds s j d) → length h.keys ≡ length k.keys

@@ -1,13 +1,14 @@
 -- Keys that are read are those that a run of items stands for.
 use Rattle.std.proofs.Common.{◌≡◌, ℕ, zero, suc, ◌+◌, ◌^◌, ◌<◌, Bool, true, eqb, List, [], ◌∷◌, length, map, Option, Some, None, refl, ap, subst, arith}
 use Rattle.std.specs.Prelude.{◌&&◌}
-use Rattle.std.proofs.lemmas.Bool.{eqb-true}
+use Rattle.std.proofs.lemmas.Bool.{eqb-true, and_parts}
 use Rattle.std.proofs.lemmas.List.{length-append}
 use Rattle.jsonb_layout.specs.Layout.{Item, pieces}
 use Rattle.json_model.specs.Keys.{key_before, rises}
 use Rattle.jsonb_layout.specs.Stands.{key_item}
-use Rattle.jsonb_layout.specs.Reading.{◌>>=◌, only_if, Place, item_at, follows, keys_at}
-use Rattle.jsonb_layout.proofs.Tools.{guard, bind_some, some_is, and_both}
+use Rattle.jsonb_layout.specs.Options.{◌>>=◌, only_if}
+use Rattle.jsonb_layout.specs.inner.Reading.{Place, item_at, follows, keys_at}
+use Rattle.jsonb_layout.proofs.Tools.{guard, bind_some, some_is}
 use Rattle.jsonb_layout.proofs.Runs.{Run, Run-nil, Run-cons, Run-none, Run-tail, after, Fit, item_takes, item_again}
 
 abbrev pub rises_after : Option (List ℕ) → List (List ℕ) → Bool
@@ -20,7 +21,7 @@ rises_more (Some b) k ks f r = rw (f, r) refl
 
 rises_less : (before : Option (List ℕ)) (k : List ℕ) (ks : List (List ℕ)) → rises_after before (k ∷ ks) ≡ true → (follows before k ≡ true) × (rises (k ∷ ks) ≡ true)
 rises_less None k ks r = (refl, r)
-rises_less (Some b) k ks r = and_both (key_before b k) (rises (k ∷ ks)) r
+rises_less (Some b) k ks r = and_parts (key_before b k) (rises (k ∷ ks)) r
 
 pub record KeyRun (before : Option (List ℕ)) (p q : Place) (ks : List (List ℕ)) (n : ℕ) : Type 0 where
   pub run : Run p q (map key_item ks)
@@ -43,7 +44,7 @@ keys_take (suc n) before p r fit e =
     let a = bind_some (item_at p) (λ x. only_if (eqb x.0.kind 0 && follows before x.0.piece) (keys_at n (Some x.0.piece) x.1) >>= λ ks. Some (x.0.piece ∷ ks.0, ks.1)) r e in
     let b = bind_some (only_if (eqb a.0.0.kind 0 && follows before a.0.0.piece) (keys_at n (Some a.0.0.piece) a.0.1)) (λ ks. Some (a.0.0.piece ∷ ks.0, ks.1)) r a.2 in
     let g = guard (eqb a.0.0.kind 0 && follows before a.0.0.piece) (keys_at n (Some a.0.0.piece) a.0.1) b.0 b.1 in
-    let t = and_both (eqb a.0.0.kind 0) (follows before a.0.0.piece) g.0 in
+    let t = and_parts (eqb a.0.0.kind 0) (follows before a.0.0.piece) g.0 in
     let one = item_takes p a.0.1 a.0.0 fit a.1 in
     let more = keys_take n (Some a.0.0.piece) a.0.1 b.0 one.1 g.1 in
     let first : Run p a.0.1 (key_item a.0.0.piece ∷ []) = subst (λ (x : Item). Run p a.0.1 (x ∷ [])) (key_is a.0.0 (eqb-true a.0.0.kind 0 t.0)) one.0 in

@@ -4,13 +4,15 @@ use Rattle.std.specs.Prelude.{◌&&◌, not, IsTrue}
 use Rattle.std.specs.Int.{w16, w32, to_le_bytes, from_le_bytes}
 use Rattle.std.specs.List.{flat_map}
 use Rattle.std.proofs.Math.Nat.{pow-suc, mul-mod_left, mul-div_cancel}
-use Rattle.std.proofs.lemmas.Bool.{le-leb, leb-true, lt-leb, leb-false, lt-ltb, le-ltb, ltb-true, ltb-false, eqb-true, eqb-false, eq-eqb, ne_eqb}
+use Rattle.std.proofs.lemmas.Bool.{le-leb, leb-true, lt-leb, leb-false, lt-ltb, le-ltb, ltb-true, ltb-false, eqb-true, eqb-false, eq-eqb, ne_eqb, and_parts}
 use Rattle.std.proofs.lemmas.List.{take_at, drop_at, take-append-drop, length-append, length-drop, drop-drop, length-take-le}
 use Rattle.std.proofs.lemmas.Nat.{le_bytes_2, le_bytes_4, from_le_bytes-to_le_bytes_2, from_le_bytes-to_le_bytes_4, div-add-mod'}
 use Rattle.json_model.specs.Decimal.{Decimal}
-use Rattle.jsonb_layout.specs.Numeric.{IsVarlena, Header, bit, short_lift, long_lift, IsShort, IsLong, joined, all_below, are_groups, signed, IsValue, Numeric}
-use Rattle.jsonb_layout.specs.Reading.{◌>>=◌, only_if, varlena_of, header_of, header_with, short_of, long_of, groups_of, value_of, numeric_of}
-use Rattle.jsonb_layout.proofs.Tools.{guard, bind_some, some_is, and_both, IsBytes, IsBytes-take, IsBytes-drop}
+use Rattle.jsonb_layout.specs.Numeric.{IsVarlena, bit, short_lift, long_lift, IsShort, IsLong, joined, all_below, are_groups, signed, IsValue, Numeric}
+use Rattle.jsonb_layout.specs.declared.header.Header.{Header}
+use Rattle.jsonb_layout.specs.Options.{◌>>=◌, only_if}
+use Rattle.jsonb_layout.specs.inner.Reading.{varlena_of, header_of, header_with, short_of, long_of, groups_of, value_of, numeric_of}
+use Rattle.jsonb_layout.proofs.Tools.{guard, bind_some, some_is, IsBytes, IsBytes-take, IsBytes-drop}
 use Rattle.jsonb_layout.proofs.Tools.{chosen}
 
 -- ---- the varlena header
@@ -30,7 +32,7 @@ varlena_takes p body fits e = elim (chosen (eqb (get_or p 0 0 % 2) 1) _ _ (Some 
       (inr (omega (arith, fits 0), odd_first p odd ∙ ap (λ (n : ℕ). n ∷ drop 1 p) size ∙ ap (λ (r : List ℕ). (2 * length p + 1) ∷ r) same), subst IsBytes same (IsBytes-drop 1 p fits))
   | inr g ↦
       let h = guard (leb 4 (length p) && eqb (from_le_bytes w32 (take 4 p)) (4 * length p)) (Some (drop 4 p)) body g.1 in
-      let t = and_both (leb 4 (length p)) (eqb (from_le_bytes w32 (take 4 p)) (4 * length p)) h.0 in
+      let t = and_parts (leb 4 (length p)) (eqb (from_le_bytes w32 (take 4 p)) (4 * length p)) h.0 in
       let long = leb-true 4 (length p) t.0 in
       let size = eqb-true (from_le_bytes w32 (take 4 p)) (4 * length p) t.1 in
       let fits4 = IsBytes-take 4 p fits in
@@ -187,7 +189,7 @@ pub groups_again : (gs : List ℕ) → IsTrue (all_below gs) → groups_of (flat
 unfolding groups_of
 groups_again [] h = refl
 groups_again (g ∷ gs) h =
-    let t = and_both (ltb g 10000) (all_below gs) h in
+    let t = and_parts (ltb g 10000) (all_below gs) h in
     let lt : g < 10000 = ltb-true g 10000 t.0 in
     let same : from_le_bytes w16 (to_le_bytes w16 g) ≡ g = from_le_bytes-to_le_bytes_2 g (omega arith) in
     rw (groups_again gs t.1) (ap (λ (n : ℕ). Some (n ∷ gs)) (omega arith))
@@ -240,7 +242,7 @@ pub value_takes : (h : Header) (gs : List ℕ) (d : Decimal) → value_of h gs �
 unfolding value_of
 value_takes h [] d e =
     let g = guard (eqb h.lift (2 ^ 15) && not h.minus) (Some (record { digits = pos 0; places = h.dscale })) d e in
-    let t = and_both (eqb h.lift (2 ^ 15)) (not h.minus) g.0 in
+    let t = and_parts (eqb h.lift (2 ^ 15)) (not h.minus) g.0 in
     subst (λ (y : Decimal). IsValue h [] y) (some_is (record { digits = pos 0; places = h.dscale }) d g.1) (record {
       places = refl;
       sign = signed_zero h.minus;
@@ -282,7 +284,7 @@ value_again h (x ∷ gs) d v =
 -- ---- the whole number
 
 are_below : (gs : List ℕ) → are_groups gs ≡ true → all_below gs ≡ true
-are_below gs e = (and_both (all_below gs) (ltb 0 (get_or gs 0 1)) (and_both (all_below gs && ltb 0 (get_or gs 0 1)) (ltb 0 (get_or gs (length gs - 1) 1)) e).0).0
+are_below gs e = (and_parts (all_below gs) (ltb 0 (get_or gs 0 1)) (and_parts (all_below gs && ltb 0 (get_or gs 0 1)) (ltb 0 (get_or gs (length gs - 1) 1)) e).0).0
 
 pub numeric_takes : (p : List ℕ) (d : Decimal) → IsBytes p → numeric_of p ≡ Some d → Numeric p d
 unfolding numeric_of

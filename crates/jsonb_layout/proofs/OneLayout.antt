@@ -1,8 +1,9 @@
 -- Bytes are laid out in one way: the form and the items are read back from them.
 use Rattle.std.proofs.Common.{◌≡◌, ℕ, ◌+◌, ◌^◌, ◌<◌, List, [], ◌∷◌, length, refl, sym, ap, subst, ◌∙◌, arith}
 use Rattle.std.proofs.lemmas.List.{length-append}
-use Rattle.jsonb_layout.specs.Layout.{Item, pieces, Form, Laid}
-use Rattle.jsonb_layout.specs.Reading.{Place, items_in}
+use Rattle.jsonb_layout.specs.Layout.{Item, pieces, Laid}
+use Rattle.jsonb_layout.specs.declared.form.Form.{Form}
+use Rattle.jsonb_layout.specs.inner.Reading.{Place, items_in}
 use Rattle.jsonb_layout.proofs.Tools.{some_is}
 use Rattle.jsonb_layout.proofs.Runs.{Run, Run-tail, after, item_again}
 use Rattle.jsonb_layout.proofs.Openings.{open_again, opens_from, count_is, first, last, run_over}

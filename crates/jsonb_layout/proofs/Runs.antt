@@ -6,7 +6,8 @@ use Rattle.std.proofs.lemmas.Bool.{le-leb, leb-true}
 use Rattle.std.proofs.lemmas.List.{take_at, drop_at, take-append-drop, length-append, length-take-le, append-nil}
 use Rattle.std.proofs.lemmas.Nat.{le_bytes_4, from_le_bytes-to_le_bytes_4}
 use Rattle.jsonb_layout.specs.Layout.{Item, pieces, entry, entries, words}
-use Rattle.jsonb_layout.specs.Reading.{only_if, Place, length_of, item_with, item_at}
+use Rattle.jsonb_layout.specs.Options.{only_if}
+use Rattle.jsonb_layout.specs.inner.Reading.{Place, length_of, item_with, item_at}
 use Rattle.jsonb_layout.proofs.Tools.{guard, bind_some, some_is, IsBytes, IsBytes-take, IsBytes-drop}
 use Rattle.jsonb_layout.proofs.Words.{entry_says, entry_said, says_length}
 

@@ -2,19 +2,20 @@
 use Rattle.std.proofs.Common.{◌≡◌, ℕ, zero, suc, ◌≤◌, true, false, eqb, leb, List, [], ◌∷◌, ◌++◌, length, take, drop, replicate, Some, refl, sym, ap, subst, ◌∙◌, arith, inl, inr}
 use Rattle.std.specs.Prelude.{◌&&◌}
 use Rattle.std.specs.List.{list_all}
-use Rattle.std.proofs.lemmas.Bool.{le-leb, leb-true, eqb-true}
+use Rattle.std.proofs.lemmas.Bool.{le-leb, leb-true, eqb-true, and_parts}
 use Rattle.std.proofs.lemmas.List.{take_at, drop_at, take-append-drop, length-append, length-take-le, length-replicate, nil_from_length}
 use Rattle.json_model.specs.Tree.{Scalar, null, boolean, number, string}
-use Rattle.jsonb_layout.specs.Layout.{Item}
+use Rattle.jsonb_layout.specs.Layout.{Item, pad}
 use Rattle.jsonb_layout.specs.Stands.{padding, IsScalar}
-use Rattle.jsonb_layout.specs.Reading.{◌>>=◌, only_if, pad, unpadded, numeric_of, scalar_of}
-use Rattle.jsonb_layout.proofs.Tools.{chosen, guard, bind_some, some_is, and_both, IsBytes, IsBytes-drop}
+use Rattle.jsonb_layout.specs.Options.{◌>>=◌, only_if}
+use Rattle.jsonb_layout.specs.inner.Reading.{unpadded, numeric_of, scalar_of}
+use Rattle.jsonb_layout.proofs.Tools.{chosen, guard, bind_some, some_is, IsBytes, IsBytes-drop}
 use Rattle.jsonb_layout.proofs.Numbers.{numeric_takes, numeric_again}
 
 all_zero_is : (xs : List ℕ) → list_all (λ b. eqb b 0) xs ≡ true → xs ≡ replicate (length xs) 0
 all_zero_is [] e = refl
 all_zero_is (x ∷ xs) e =
-    let g = and_both (eqb x 0) (list_all (λ b. eqb b 0) xs) e in
+    let g = and_parts (eqb x 0) (list_all (λ b. eqb b 0) xs) e in
     rw (eqb-true x 0 g.0, ← all_zero_is xs g.1) refl
 
 all_zero_again : (n : ℕ) → list_all (λ b. eqb b 0) (replicate n 0) ≡ true
@@ -25,7 +26,7 @@ pub unpadded_takes : (at : ℕ) (piece q : List ℕ) → unpadded at piece ≡ S
 unfolding unpadded
 unpadded_takes at piece q e =
     let g = guard (leb (pad at) (length piece) && list_all (λ b. eqb b 0) (take (pad at) piece)) (Some (drop (pad at) piece)) q e in
-    let t = and_both (leb (pad at) (length piece)) (list_all (λ b. eqb b 0) (take (pad at) piece)) g.0 in
+    let t = and_parts (leb (pad at) (length piece)) (list_all (λ b. eqb b 0) (take (pad at) piece)) g.0 in
     let rest : drop (pad at) piece ≡ q = some_is _ _ g.1 in
     let len : length (take (pad at) piece) ≡ pad at = length-take-le (pad at) piece (leb-true _ _ t.0) in
     let front : take (pad at) piece ≡ padding at = all_zero_is (take (pad at) piece) t.1 ∙ ap (λ (n : ℕ). replicate n 0) len in

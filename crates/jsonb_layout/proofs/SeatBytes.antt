@@ -5,8 +5,9 @@ use Rattle.std.specs.Int.{w32, to_le_bytes, from_le_bytes}
 use Rattle.std.proofs.lemmas.Bool.{ne_eqb}
 use Rattle.std.proofs.lemmas.List.{take_at, drop_at, take-append-drop, length-append, length-take, length-drop, append-nil}
 use Rattle.std.proofs.lemmas.Nat.{from_le_bytes-to_le_bytes_4}
-use Rattle.jsonb_layout.specs.Layout.{Item, pieces, entry, entries, words, Form, list, pairs, lone, flags, Laid}
-use Rattle.jsonb_layout.specs.Reading.{pad}
+use Rattle.jsonb_layout.specs.Layout.{Item, pieces, entry, entries, words, flags, Laid, pad}
+use Rattle.jsonb_layout.specs.declared.form.Form.{Form}
+use Rattle.jsonb_layout.specs.declared.form.Form.TheVariants.{Array, Object, Lone}
 use Rattle.jsonb_layout.specs.Seats.{Seat, is_padded, own_bytes, where_it_is, item_seat, Holds, Leads, root_seat, IsSeat}
 use Rattle.jsonb_layout.proofs.Runs.{Run-split}
 use Rattle.jsonb_layout.proofs.Words.{entry_says}
@@ -153,12 +154,12 @@ whole_seated : (b : List ℕ) (f : Form) (xs : List Item) → Laid b f xs → Se
 whole_seated b f xs l = record { own = lies_whole b; word = λ none. absurd (omega (arith, ap length none, laid_length b f xs l)) }
 
 root_seated : (b : List ℕ) (f : Form) (xs : List Item) → Laid b f xs → Seated b (root_seat b f xs)
-root_seated b list xs l = whole_seated b list xs l
-root_seated b pairs xs l = whole_seated b pairs xs l
-root_seated b lone [] l = whole_seated b lone [] l
-root_seated b lone (x ∷ xs) l =
+root_seated b Array xs l = whole_seated b Array xs l
+root_seated b Object xs l = whole_seated b Object xs l
+root_seated b Lone [] l = whole_seated b Lone [] l
+root_seated b Lone (x ∷ xs) l =
     let one : length (x ∷ xs) ≡ 1 = l.counted.0 ∙ l.counted.1 in
-    item_seated b b 0 1 [] x (lies_whole b) (subst (λ (n : ℕ). Parts b n [] x) one (parts b lone [] xs x l))
+    item_seated b b 0 1 [] x (lies_whole b) (subst (λ (n : ℕ). Parts b n [] x) one (parts b Lone [] xs x l))
 
 seated : (b way : List ℕ) (s : Seat) → IsSeat b way s → Seated b s
 seated b way s (r, (f, xs, l, e), more) = led_seated b way r s (subst (Seated b) (sym e) (root_seated b f xs l)) more

@@ -4,8 +4,8 @@ use Rattle.std.specs.Prelude.{slice_get, if◌then◌else◌}
 use Rattle.std.proofs.lemmas.List.{length-append, length-map, length-replicate, drop_at}
 use Rattle.json_model.specs.Parts.{trees_in}
 use Rattle.json_model.specs.Tree.{Scalar, null, boolean, number, string, Tree, scalar, array, object, Elements, no_elements, element, Members, no_members, member, keys, values}
-use Rattle.jsonb_layout.specs.Layout.{Item, pieces, list, pairs, lone, Laid}
-use Rattle.jsonb_layout.specs.Reading.{pad}
+use Rattle.jsonb_layout.specs.Layout.{Item, pieces, Laid, pad}
+use Rattle.jsonb_layout.specs.declared.form.Form.TheVariants.{Array, Object, Lone}
 use Rattle.jsonb_layout.specs.Stands.{padding, key_item, IsScalar, IsArray, IsObject, IsItem, AreElements, AreValues, Stands}
 use Rattle.jsonb_layout.specs.Seats.{Seat, trees_of, tree_at, is_padded, own_bytes, item_seat, Holds, Leads, IsRoot, IsSeat, SeatStands}
 use Rattle.jsonb_layout.proofs.Tools.{bind_some}
@@ -92,7 +92,7 @@ in_array s ts i t five (items, l, are) e =
     let place : 0 + length (pieces p.before) ≡ length (pieces p.before) = omega arith in
     record {
       seat = item_seat s.at (length all) p.before p.item;
-      held = record { form = list; keys = []; before = p.before; item = p.item; after = p.after; container = five; laid = subst (λ (xs : List Item). Laid s.bytes list xs) p.split l; values = refl; number = p.number; seat = refl };
+      held = record { form = Array; keys = []; before = p.before; item = p.item; after = p.after; container = five; laid = subst (λ (xs : List Item). Laid s.bytes Array xs) p.split l; values = refl; number = p.number; seat = refl };
       stands = item_stands t s.at (length all) p.before p.item (subst (λ (k : ℕ). IsItem t k p.item) place p.stands);
     }
 
@@ -105,7 +105,7 @@ in_object s ms i t five (items, l, rise, are) e =
     let n : length ks ≡ length own = length-map (keys ms) key_item ∙ values_count ms at items are ∙ ap length p.split in
     record {
       seat = item_seat s.at (length (ks ++ own)) (ks ++ p.before) p.item;
-      held = record { form = pairs; keys = ks; before = p.before; item = p.item; after = p.after; container = five; laid = subst (λ (xs : List Item). Laid s.bytes pairs (ks ++ xs)) p.split l; values = n; number = p.number; seat = refl };
+      held = record { form = Object; keys = ks; before = p.before; item = p.item; after = p.after; container = five; laid = subst (λ (xs : List Item). Laid s.bytes Object (ks ++ xs)) p.split l; values = n; number = p.number; seat = refl };
       stands = item_stands t s.at (length (ks ++ own)) (ks ++ p.before) p.item (subst (λ (k : ℕ). IsItem t k p.item) (sym (pieces-append ks p.before)) p.stands);
     }
 
@@ -126,9 +126,9 @@ leads_to (i ∷ is) s t u h e =
 -- ---- the whole
 
 pub root_stands : (b : List ℕ) (t : Tree) → Stands b t → (r : Seat) × IsRoot b r × SeatStands r t
-root_stands b (scalar s) (x, l, h) = (item_seat 0 1 [] x, (lone, x ∷ [], l, refl), item_stands (scalar s) 0 1 [] x h)
-root_stands b (array ts) (items, l, are) = (record { at = 0; kind = 5; bytes = b }, (list, items, l, refl), (refl, (b, refl, (items, l, are))))
-root_stands b (object ms) (items, l, rise, are) = (record { at = 0; kind = 5; bytes = b }, (pairs, map key_item (keys ms) ++ items, l, refl), (refl, (b, refl, (items, l, rise, are))))
+root_stands b (scalar s) (x, l, h) = (item_seat 0 1 [] x, (Lone, x ∷ [], l, refl), item_stands (scalar s) 0 1 [] x h)
+root_stands b (array ts) (items, l, are) = (record { at = 0; kind = 5; bytes = b }, (Array, items, l, refl), (refl, (b, refl, (items, l, are))))
+root_stands b (object ms) (items, l, rise, are) = (record { at = 0; kind = 5; bytes = b }, (Object, map key_item (keys ms) ++ items, l, refl), (refl, (b, refl, (items, l, rise, are))))
 
 -- Each place of the tree that bytes stand for has a seat, and what lies there stands for the tree at the place.
 pub place_has_seat : (b way : List ℕ) (t u : Tree) → Stands b t → tree_at way t ≡ Some u → (s : Seat) × IsSeat b way s × SeatStands s u

@@ -1,9 +1,9 @@
 -- Taking readers apart.
-use Rattle.std.proofs.Common.{◌≡◌, ℕ, ◌+◌, ◌<◌, ◌⊎◌, Bool, true, false, cond, List, get_or, take, drop, Option, Some, None, refl, arith, inl, inr}
+use Rattle.std.proofs.Common.{◌≡◌, ℕ, suc, ◌+◌, ◌-◌, ◌<◌, ◌⊎◌, Bool, true, false, cond, List, get_or, take, drop, Option, Some, None, refl, arith, inl, inr}
 use Rattle.std.specs.Prelude.{◌&&◌}
 use Rattle.std.proofs.lemmas.Bool.{cases_lt}
 use Rattle.std.proofs.lemmas.List.{length-take, get_or-drop, get_or-take, get_or_past}
-use Rattle.jsonb_layout.specs.Reading.{◌>>=◌, only_if}
+use Rattle.jsonb_layout.specs.Options.{◌>>=◌, only_if}
 
 pub guard : {A : Type 0} (b : Bool) (r : Option A) (x : A) → only_if b r ≡ Some x → (b ≡ true) × (r ≡ Some x)
 guard true r x e = (refl, e)
@@ -17,11 +17,8 @@ pub chosen : {A : Type 0} (b : Bool) (x y z : A) → cond b x y ≡ z → ((b �
 chosen true x y z e = inl (refl, e)
 chosen false x y z e = inr (refl, e)
 
-pub and_both : (a b : Bool) → (a && b) ≡ true → (a ≡ true) × (b ≡ true)
-and_both true b e = (refl, e)
-and_both false b e = absurd cc
-
-abbrev some : {A : Type 0} → A → Option A
+-- the value, where the type of what has none is not told
+abbrev pub some : {A : Type 0} → A → Option A
 some x = Some x
 
 pub some_is : {A : Type 0} (x y : A) → some x ≡ some y → x ≡ y
@@ -39,3 +36,13 @@ IsBytes-take n bytes h i =
       | inl lt ↦ rw (get_or-take n bytes i 0 lt) (h i)
       | inr le ↦ rw (get_or_past (take n bytes) i 0 (omega (arith, length-take n bytes))) (omega arith)
     ]
+
+-- ---- counting down
+
+-- one of so many, and the others
+pub less_one : (n : ℕ) → 0 < n → suc (n - 1) ≡ n
+less_one n h = omega arith
+
+-- what is left in a loop that counts up, before one more
+pub count_down : (count i : ℕ) → i < count → count - i ≡ suc (count - (i + 1))
+count_down count i lt = omega arith

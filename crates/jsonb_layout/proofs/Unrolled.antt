@@ -1,9 +1,12 @@
 -- A container's tree is made of those of the containers in it.
 use Rattle.std.proofs.Common.{◌≡◌, ℕ, zero, suc, ◌+◌, ◌<◌, ◌≤◌, Bool, true, false, cond, eqb, List, length, Option, Some, None, refl, arith}
 use Rattle.json_model.specs.Tree.{Tree, scalar, object, Elements, element}
-use Rattle.jsonb_layout.specs.Layout.{Item, Form, list, pairs, lone}
-use Rattle.jsonb_layout.specs.Reading.{◌>>=◌, Place, item_at, unpadded, scalar_of, size, keys_at, opened, ended}
-use Rattle.jsonb_layout.specs.Trees.{item_by, elements_by, members, held_by, container_of, read}
+use Rattle.jsonb_layout.specs.Layout.{Item}
+use Rattle.jsonb_layout.specs.declared.form.Form.{Form}
+use Rattle.jsonb_layout.specs.declared.form.Form.TheVariants.{Array, Object, Lone}
+use Rattle.jsonb_layout.specs.Options.{◌>>=◌}
+use Rattle.jsonb_layout.specs.inner.Reading.{Place, item_at, unpadded, scalar_of, size, keys_at, opened, ended}
+use Rattle.jsonb_layout.specs.inner.Trees.{item_by, elements_by, members, held_by, container_of, read}
 use Rattle.jsonb_layout.proofs.Sizes.{item_size, unpadded_size, keys_size, opened_size}
 
 abbrev step_by : (List ℕ → Option Tree) → ℕ → Place → Option (Item × Place) → Option (Elements × Place)
@@ -37,13 +40,13 @@ module _ (f g : List ℕ → Option Tree) (n : ℕ) (same : (c : List ℕ) → l
   elements_same (suc c) p le = step_same p c (elements_same c) le (item_at p) (λ x q e. item_size p q x e)
 
   held_same : (k : Form) (c : ℕ) (p : Place) → size p ≤ n → held_by f k c p ≡ held_by g k c p
-  held_same list c p le = rw (elements_same c p le) refl
-  held_same pairs c p le = go (keys_at c None p) (λ r e. keys_size c None p r e)
+  held_same Array c p le = rw (elements_same c p le) refl
+  held_same Object c p le = go (keys_at c None p) (λ r e. keys_size c None p r e)
     where
       go : (r : Option (List (List ℕ) × Place)) → ((k : List (List ℕ) × Place) → r ≡ Some k → size k.1 ≤ size p) → objects_by f c r ≡ objects_by g c r
       go None len = refl
       go (Some k) len = rw (elements_same c k.1 (omega (arith, len k refl))) refl
-  held_same lone c p le = refl
+  held_same Lone c p le = refl
 
 opened_same : (f g : List ℕ → Option Tree) (n : ℕ) → ((c : List ℕ) → length c < n → f c ≡ g c) → (r : Option (Form × ℕ × Place)) → ((o : Form × ℕ × Place) → r ≡ Some o → size o.2 + 4 ≤ n) → held_all f r ≡ held_all g r
 opened_same f g n same None len = refl

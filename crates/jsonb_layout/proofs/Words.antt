@@ -1,10 +1,11 @@
 -- An entry word says the kind and the length of its item, and nothing else.
 use Rattle.std.proofs.Common.{◌≡◌, ℕ, ◌+◌, ◌-◌, ◌*◌, ◌/◌, ◌%◌, ◌^◌, ◌<◌, Bool, true, false, cond, eqb, ltb, leb, List, length, Option, Some, refl, ap, arith}
 use Rattle.std.specs.Prelude.{◌&&◌}
-use Rattle.std.proofs.lemmas.Bool.{lt-ltb, le-leb, ltb-true, leb-true}
+use Rattle.std.proofs.lemmas.Bool.{lt-ltb, le-leb, ltb-true, leb-true, and_parts}
 use Rattle.jsonb_layout.specs.Layout.{Item, entry}
-use Rattle.jsonb_layout.specs.Reading.{only_if, length_of}
-use Rattle.jsonb_layout.proofs.Tools.{guard, and_both, some_is}
+use Rattle.jsonb_layout.specs.Options.{only_if}
+use Rattle.jsonb_layout.specs.inner.Reading.{length_of}
+use Rattle.jsonb_layout.proofs.Tools.{guard, some_is}
 
 -- the word, and the length that it gives, by whether it stores a sum
 abbrev word_by : Bool → ℕ → ℕ → ℕ → ℕ
@@ -29,7 +30,7 @@ says false k at n h l =
 said : (b : Bool) (at n w : ℕ) → w < 2 ^ 32 → length_by b at w ≡ Some n → w ≡ word_by b (w / 2 ^ 28 % 8) (at + n) n
 said true at n w h e =
     let g = guard (leb (2 ^ 31) w && leb at (w % 2 ^ 28)) (Some (w % 2 ^ 28 - at)) n e in
-    let t = and_both (leb (2 ^ 31) w) (leb at (w % 2 ^ 28)) g.0 in
+    let t = and_parts (leb (2 ^ 31) w) (leb at (w % 2 ^ 28)) g.0 in
     let high = leb-true (2 ^ 31) w t.0 in
     let low = leb-true at (w % 2 ^ 28) t.1 in
     let n-is : w % 2 ^ 28 - at ≡ n = some_is _ _ g.1 in

@@ -1,6 +1,6 @@
 //! Which bytes stand for which tree in PostgreSQL's `jsonb` layout: words for contracts, and the theory that joins them.
 //!
-//! There is no code here. In `specs/`
+//! There is no code here but [`Form`] and [`Header`], which the definitions and the reader share. In `specs/`
 //!
 //! - `Layout`, `Numeric` and `Stands` are the relation that a user believes: `Stands bytes tree` says that the bytes, all of
 //!   them, are a header word, entry words and pieces that stand for the tree;
@@ -17,3 +17,9 @@
 //! For example the eight bytes `01 00 00 50  00 00 00 c0` stand for null: a root scalar of one entry, whose word has
 //! HAS_OFF (bit 31), the kind 4 (null) and the sum 0.
 #![tactic(auto)]
+
+mod form;
+mod header;
+
+pub use form::Form;
+pub use header::Header;

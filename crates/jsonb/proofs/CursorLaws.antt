@@ -26,12 +26,14 @@ abbrev left_by : Option (Elements × Place) → List Tree
 left_by r = elements_of (or_null (tree_by r))
 
 pub next_element : (n : ℕ) (p q : Place) (x : Item) → item_at p ≡ Some (x, q) → IsJsonTree (array_at (suc n) p) → NextElement n p x q
-next_element n p q x e json = go (item_tree p.at x) refl (elements_by read n q) refl (subst (λ (r : Option (Elements × Place)). IsJsonTree (tree_by r)) made json)
+next_element n p q x e json =
+    go (item_tree p.at x) refl (elements_by read n q) refl (subst (λ (r : Option (Elements × Place)). IsJsonTree (tree_by r)) made json)
   where
     made : elements_by read (suc n) p ≡ (item_tree p.at x >>= λ t. elements_by read n q >>= λ ts. Some (element t ts.0, ts.1))
     made = values_some n p q x e
 
-    go : (t : Option Tree) → item_tree p.at x ≡ t → (r : Option (Elements × Place)) → elements_by read n q ≡ r → IsJsonTree (tree_by (t >>= λ t. r >>= λ ts. Some (element t ts.0, ts.1))) → NextElement n p x q
+    go : (t : Option Tree) → item_tree p.at x ≡ t → (r : Option (Elements × Place)) → elements_by read n q ≡ r
+        → IsJsonTree (tree_by (t >>= λ t. r >>= λ ts. Some (element t ts.0, ts.1))) → NextElement n p x q
     go None et r er h = absurd cc
     go (Some t) et None er h = absurd cc
     go (Some t) et (Some ts) er h =

@@ -68,8 +68,11 @@ pub combine_some : (a b : Option Found) (f : Found) → combine a b ≡ Some f �
 combine_some None b f e = absurd cc
 combine_some (Some g) b f e = (g, refl)
 
-pub members_found_is : (ks : List (List ℕ)) (ts : Elements) → length ks ≡ count ts → members_found (members ks ts) ≡ both (keys_found ks) (elements_found ts)
+pub members_found_is : (ks : List (List ℕ)) (ts : Elements) → length ks ≡ count ts
+    → members_found (members ks ts) ≡ both (keys_found ks) (elements_found ts)
 members_found_is [] no_elements e = refl
 members_found_is [] (element t ts) e = absurd cc
 members_found_is (k ∷ ks) no_elements e = absurd cc
-members_found_is (k ∷ ks) (element t ts) e = ap (both (both (text_found k) (tree_found t))) (members_found_is ks ts (omega arith)) ∙ both_shuffle (text_found k) (tree_found t) (keys_found ks) (elements_found ts)
+members_found_is (k ∷ ks) (element t ts) e =
+    ap (both (both (text_found k) (tree_found t))) (members_found_is ks ts (omega arith))
+    ∙ both_shuffle (text_found k) (tree_found t) (keys_found ks) (elements_found ts)

@@ -42,7 +42,8 @@ end_both false f g = refl
 abbrev first_of : Option Tree → Option (Elements × Place) → Option (Elements × Place)
 first_of a r = a >>= λ t. r >>= λ ts. Some (element t ts.0, ts.1)
 
-one_more : (a : Option Tree) (r : Option (Elements × Place)) → (first_of a r >>= λ r. ended r.1 (elements_found r.0)) ≡ combine (option_map tree_found a) (r >>= λ r. ended r.1 (elements_found r.0))
+one_more : (a : Option Tree) (r : Option (Elements × Place))
+    → (first_of a r >>= λ r. ended r.1 (elements_found r.0)) ≡ combine (option_map tree_found a) (r >>= λ r. ended r.1 (elements_found r.0))
 one_more None r = refl
 one_more (Some t) None = refl
 one_more (Some t) (Some r) = end_both (eqb (length r.1.rest) 0) (tree_found t) (elements_found r.0)
@@ -51,7 +52,8 @@ first_none : (n : ℕ) (p : Place) → item_at p ≡ None → rest_found (suc n)
 unfolding elements_by
 first_none n p e = rw e refl
 
-first_some : (n : ℕ) (p q : Place) (x : Item) → item_at p ≡ Some (x, q) → rest_found (suc n) p ≡ combine (option_map tree_found (item_tree p.at x)) (rest_found n q)
+first_some : (n : ℕ) (p q : Place) (x : Item) → item_at p ≡ Some (x, q)
+    → rest_found (suc n) p ≡ combine (option_map tree_found (item_tree p.at x)) (rest_found n q)
 unfolding elements_by
 first_some n p q x e = rw e (one_more (item_tree p.at x) (elements_by read n q))
 
@@ -59,7 +61,8 @@ module _ (n : ℕ) (p : Place) (some : 0 < n) where
   pub rest_none : None ≡ item_at p → rest_found n p ≡ None
   rest_none e = ap (λ (k : ℕ). rest_found k p) (sym (less_one n some)) ∙ first_none (n - 1) p (sym e)
 
-  pub rest_some : (x : Item) (q : Place) → Some (x, q) ≡ item_at p → rest_found n p ≡ combine (option_map tree_found (item_tree p.at x)) (rest_found (n - 1) q)
+  pub rest_some : (x : Item) (q : Place) → Some (x, q) ≡ item_at p
+      → rest_found n p ≡ combine (option_map tree_found (item_tree p.at x)) (rest_found (n - 1) q)
   rest_some x q e = ap (λ (k : ℕ). rest_found k p) (sym (less_one n some)) ∙ first_some (n - 1) p q x (sym e)
 
 -- ---- an item
@@ -71,10 +74,12 @@ item_scalar at x other = rw (ne_eqb x.kind 5 other) (go (scalar_of at x))
     go None = refl
     go (Some s) = refl
 
-pub scalar_none : (at : ℕ) (x : Item) → (x.kind ≡ 5 → ⊥) → None ≡ option_map scalar_found (scalar_of at x) → option_map tree_found (item_tree at x) ≡ None
+pub scalar_none : (at : ℕ) (x : Item) → (x.kind ≡ 5 → ⊥) → None ≡ option_map scalar_found (scalar_of at x)
+    → option_map tree_found (item_tree at x) ≡ None
 scalar_none at x other e = item_scalar at x other ∙ sym e
 
-pub scalar_some : (at : ℕ) (x : Item) (f : Found) → (x.kind ≡ 5 → ⊥) → Some f ≡ option_map scalar_found (scalar_of at x) → option_map tree_found (item_tree at x) ≡ combine (Some f) (Some nothing)
+pub scalar_some : (at : ℕ) (x : Item) (f : Found) → (x.kind ≡ 5 → ⊥) → Some f ≡ option_map scalar_found (scalar_of at x)
+    → option_map tree_found (item_tree at x) ≡ combine (Some f) (Some nothing)
 scalar_some at x f other e = item_scalar at x other ∙ sym e ∙ sym (combine_nothing (Some f))
 
 inside_of : (at : ℕ) (x : Item) → x.kind ≡ 5 → item_tree at x ≡ (unpadded at x.piece >>= read)
@@ -83,7 +88,8 @@ inside_of at x five = rw (eq-eqb x.kind 5 five) refl
 pub inside_none : (at : ℕ) (x : Item) → x.kind ≡ 5 → None ≡ unpadded at x.piece → option_map tree_found (item_tree at x) ≡ None
 inside_none at x five e = ap (option_map tree_found) (inside_of at x five ∙ ap (λ (r : Option (List ℕ)). r >>= read) (sym e))
 
-pub inside_some : (at : ℕ) (x : Item) (b : List ℕ) → x.kind ≡ 5 → Some b ≡ unpadded at x.piece → option_map tree_found (item_tree at x) ≡ container_found b
+pub inside_some : (at : ℕ) (x : Item) (b : List ℕ) → x.kind ≡ 5 → Some b ≡ unpadded at x.piece
+    → option_map tree_found (item_tree at x) ≡ container_found b
 inside_some at x b five e = ap (option_map tree_found) (inside_of at x five ∙ ap (λ (r : Option (List ℕ)). r >>= read) (sym e))
 
 pub is_inside : (at : ℕ) (x : Item) (b : List ℕ) → x.kind ≡ 5 → Some b ≡ unpadded at x.piece → IsInside at x
@@ -99,7 +105,9 @@ array_end : (r : Option (Elements × Place)) → option_map tree_found (r >>= λ
 array_end None = refl
 array_end (Some x) = end_tree (eqb (length x.1.rest) 0) (array x.0)
 
-object_end : (ks : List (List ℕ)) (r : Option (Elements × Place)) → ((x : Elements × Place) → r ≡ Some x → length ks ≡ count x.0) → option_map tree_found (r >>= λ x. ended x.1 (object (members ks x.0))) ≡ combine (Some (keys_found ks)) (r >>= λ r. ended r.1 (elements_found r.0))
+object_end : (ks : List (List ℕ)) (r : Option (Elements × Place)) → ((x : Elements × Place) → r ≡ Some x → length ks ≡ count x.0)
+    → option_map tree_found (r >>= λ x. ended x.1 (object (members ks x.0)))
+    ≡ combine (Some (keys_found ks)) (r >>= λ r. ended r.1 (elements_found r.0))
 object_end ks None n = refl
 object_end ks (Some x) n =
     end_tree (eqb (length x.1.rest) 0) (object (members ks x.0))
@@ -120,14 +128,21 @@ module _ (b : List ℕ) where
   lone_found c p e = opened_by (Some (Lone, c, p)) e
 
   module _ (c : ℕ) (p : Place) (e : Some (Object, c, p) ≡ opened b) where
-    object_by : (k : Option (List (List ℕ) × Place)) → k ≡ keys_at c None p → container_found b ≡ option_map tree_found (k >>= λ k. elements_by read c k.1 >>= λ r. ended r.1 (object (members k.0 r.0)))
-    object_by k h = opened_by (Some (Object, c, p)) e ∙ ap (λ (k : Option (List (List ℕ) × Place)). option_map tree_found (k >>= λ k. elements_by read c k.1 >>= λ r. ended r.1 (object (members k.0 r.0)))) (sym h)
+    object_by : (k : Option (List (List ℕ) × Place)) → k ≡ keys_at c None p
+        → container_found b ≡ option_map tree_found (k >>= λ k. elements_by read c k.1 >>= λ r. ended r.1 (object (members k.0 r.0)))
+    object_by k h =
+        opened_by (Some (Object, c, p)) e
+        ∙ ap
+        (λ (k : Option (List (List ℕ) × Place)). option_map tree_found (k >>= λ k. elements_by read c k.1 >>= λ r. ended r.1 (object (members k.0 r.0))))
+        (sym h)
 
     pub no_keys : None ≡ keys_at c None p → container_found b ≡ None
     no_keys h = object_by None h
 
-    pub object_found : (k : List (List ℕ) × Place) → Some k ≡ keys_at c None p → container_found b ≡ combine (Some (keys_found k.0)) (rest_found c k.1)
-    object_found k h = object_by (Some k) h ∙ object_end k.0 (elements_by read c k.1) (λ x g. keys_count c p k (sym h) ∙ sym (elements_count read c k.1 x g))
+    pub object_found : (k : List (List ℕ) × Place) → Some k ≡ keys_at c None p
+        → container_found b ≡ combine (Some (keys_found k.0)) (rest_found c k.1)
+    object_found k h =
+        object_by (Some k) h ∙ object_end k.0 (elements_by read c k.1) (λ x g. keys_count c p k (sym h) ∙ sym (elements_count read c k.1 x g))
 
 -- ---- flat trees
 
@@ -159,12 +174,14 @@ module _ (b : List ℕ) (t : Tree) (is : read b ≡ Some t) (low : nest t ≤ 1)
   object_flat c p e k g r h =
       let j = bind_some (keys_at c None p) (λ k. elements_by read c k.1 >>= λ r. ended r.1 (object (members k.0 r.0))) t (held_is Object c p e) in
       let same : j.0 ≡ k = some_is j.0 k (sym j.1 ∙ sym g) in
-      let rest : (elements_by read c k.1 >>= λ r. ended r.1 (object (members k.0 r.0))) ≡ Some t = subst (λ (y : List (List ℕ) × Place). (elements_by read c y.1 >>= λ r. ended r.1 (object (members y.0 r.0))) ≡ Some t) same j.2 in
+      let rest : (elements_by read c k.1 >>= λ r. ended r.1 (object (members k.0 r.0))) ≡ Some t =
+      subst (λ (y : List (List ℕ) × Place). (elements_by read c y.1 >>= λ r. ended r.1 (object (members y.0 r.0))) ≡ Some t) same j.2 in
       let a = bind_some (elements_by read c k.1) (λ r. ended r.1 (object (members k.0 r.0))) t rest in
       let d = ended_is a.0.1 (object (members k.0 a.0.0)) t a.2 in
       let at : a.0 ≡ r = some_is a.0 r (sym a.1 ∙ h) in
       let n : nest t ≡ 1 + nest_members (members k.0 a.0.0) = ap nest (sym d.1) in
-      let m : nest_members (members k.0 a.0.0) ≡ nest_elements a.0.0 = members_nest k.0 a.0.0 (keys_count c p k (sym g) ∙ sym (elements_count read c k.1 a.0 a.1)) in
+      let m : nest_members (members k.0 a.0.0) ≡ nest_elements a.0.0 =
+      members_nest k.0 a.0.0 (keys_count c p k (sym g) ∙ sym (elements_count read c k.1 a.0 a.1)) in
       subst (λ (y : Elements × Place). nest_elements y.0 ≡ 0) at (omega arith)
 
 -- what was found of the rest was read
@@ -231,7 +248,8 @@ weight-append [] f = omega arith
 weight-append (g ∷ fs) f = omega (arith, weight-append fs f)
 
 -- a frame put off behind others
-pub put_off : (fs all : List Frame) (f : Frame) → all ≡ fs ++ f ∷ [] → (frames_found all ≡ combine (frame_found f) (frames_found fs)) × (frames_weight all ≡ frame_weight f + frames_weight fs)
+pub put_off : (fs all : List Frame) (f : Frame) → all ≡ fs ++ f ∷ []
+    → (frames_found all ≡ combine (frame_found f) (frames_found fs)) × (frames_weight all ≡ frame_weight f + frames_weight fs)
 put_off fs all f e = (ap frames_found e ∙ frames-append fs f, ap frames_weight e ∙ weight-append fs f)
 
 -- ---- the code's values
@@ -250,7 +268,11 @@ keys_read None f q e = absurd cc
 keys_read (Some k) f q e =
     let same : ◌≡◌ {A = Found × Place} (keys_found k.0, k.1) (f, q) = some_is (keys_found k.0, k.1) (f, q) (sym e) in
     let at : k.1 ≡ q = ap (λ (x : Found × Place). x.1) same in
-    record { names = k.0; reads = ap (λ (x : Place). let y : Option (List (List ℕ) × Place) = Some (k.0, x) in y) (sym at); found = ap (λ (x : Found × Place). x.0) same }
+    record {
+      names = k.0;
+      reads = ap (λ (x : Place). let y : Option (List (List ℕ) × Place) = Some (k.0, x) in y) (sym at);
+      found = ap (λ (x : Found × Place). x.0) same;
+    }
 
 pub none_read : (r : Option (List (List ℕ) × Place)) → None ≡ keys_after nothing r → None ≡ r
 none_read None e = refl

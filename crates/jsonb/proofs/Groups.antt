@@ -15,7 +15,8 @@ pub record Reads (b gs : List ℕ) : Type 0 where
   pub len : length b ≡ 2 * length gs
   pub at : (i : ℕ) → i < length gs → get_or gs i 1 ≡ get_or b (2 * i) 0 + 256 * get_or b (2 * i + 1) 0
 
-shift : (b : List ℕ) (x y i : ℕ) → (get_or (x ∷ y ∷ b) (2 * suc i) 0 ≡ get_or b (2 * i) 0) × (get_or (x ∷ y ∷ b) (2 * suc i + 1) 0 ≡ get_or b (2 * i + 1) 0)
+shift : (b : List ℕ) (x y i : ℕ)
+    → (get_or (x ∷ y ∷ b) (2 * suc i) 0 ≡ get_or b (2 * i) 0) × (get_or (x ∷ y ∷ b) (2 * suc i + 1) 0 ≡ get_or b (2 * i + 1) 0)
 shift b x y i =
     let e : 2 * suc i ≡ suc (suc (2 * i)) = omega arith in
     let f : 2 * suc i + 1 ≡ suc (suc (2 * i + 1)) = omega arith in
@@ -29,9 +30,12 @@ groups_read zero (x ∷ y ∷ b) gs le e = absurd (omega arith)
 groups_read (suc n) (x ∷ y ∷ b) gs le e =
     let a = bind_some (groups_of b) (λ gs. Some ((x + 256 * y) ∷ gs)) gs e in
     let more = groups_read n b a.0 (omega arith) a.1 in
-    subst (λ (r : List ℕ). Reads (x ∷ y ∷ b) r) (some_is ((x + 256 * y) ∷ a.0) gs a.2) (record { len = omega (arith, more.len); at = reads_at b x y a.0 more.at })
+    subst (λ (r : List ℕ). Reads (x ∷ y ∷ b) r) (some_is ((x + 256 * y) ∷ a.0) gs a.2)
+    (record { len = omega (arith, more.len); at = reads_at b x y a.0 more.at })
   where
-    reads_at : (b : List ℕ) (x y : ℕ) (gs : List ℕ) → ((i : ℕ) → i < length gs → get_or gs i 1 ≡ get_or b (2 * i) 0 + 256 * get_or b (2 * i + 1) 0) → (i : ℕ) → i < length ((x + 256 * y) ∷ gs) → get_or ((x + 256 * y) ∷ gs) i 1 ≡ get_or (x ∷ y ∷ b) (2 * i) 0 + 256 * get_or (x ∷ y ∷ b) (2 * i + 1) 0
+    reads_at : (b : List ℕ) (x y : ℕ) (gs : List ℕ) → ((i : ℕ) → i < length gs → get_or gs i 1 ≡ get_or b (2 * i) 0 + 256 * get_or b (2 * i + 1) 0)
+        → (i : ℕ) → i < length ((x + 256 * y) ∷ gs)
+        → get_or ((x + 256 * y) ∷ gs) i 1 ≡ get_or (x ∷ y ∷ b) (2 * i) 0 + 256 * get_or (x ∷ y ∷ b) (2 * i + 1) 0
     reads_at b x y gs more zero h = refl
     reads_at b x y gs more (suc i) h = let s = shift b x y i in omega (arith, more i (omega arith), s.0, s.1)
 
@@ -61,7 +65,8 @@ pub no_groups : (p body : List ℕ) → Some body ≡ varlena_of p → None ≡ 
 unfolding numeric_of
 no_groups p body e f = rw (← e, ← f) refl
 
-pub rest_is : (p body : List ℕ) (h : Header) (b : List ℕ) → Some body ≡ varlena_of p → Some (h, b) ≡ header_of body → rest_of h b ≡ option_map is_narrow (numeric_of p)
+pub rest_is : (p body : List ℕ) (h : Header) (b : List ℕ) → Some body ≡ varlena_of p → Some (h, b) ≡ header_of body
+    → rest_of h b ≡ option_map is_narrow (numeric_of p)
 unfolding numeric_of
 rest_is p body h b e f = rw (← e, ← f) refl
 
@@ -114,7 +119,10 @@ shown b e some =
           below = k;
           len = omega (arith, reads.len);
           first = reads.at 0 (omega arith);
-          last = reads.at i (omega arith) ∙ ap (λ (j : ℕ). get_or b j 0 + 256 * get_or b (2 * i + 1) 0) n ∙ ap (λ (j : ℕ). get_or b (length b - 2) 0 + 256 * get_or b j 0) m;
+          last =
+              reads.at i (omega arith)
+              ∙ ap (λ (j : ℕ). get_or b j 0 + 256 * get_or b (2 * i + 1) 0) n
+              ∙ ap (λ (j : ℕ). get_or b (length b - 2) 0 + 256 * get_or b j 0) m;
           first_fits = below_at (g ∷ gs) 0 k (omega arith);
           last_fits = below_at (g ∷ gs) i k (omega arith);
         }
@@ -129,14 +137,23 @@ no_last h b s e = no_end h b (s.g ∷ s.gs) s.are (rw (s.below, e) (and_false (l
     and_false true = refl
     and_false false = refl
 
-pub answer : (h : Header) (b : List ℕ) (s : Shown b) (k z : ℕ) → Ends s.g s.gs k z → rest_of h b ≡ only_if (fits_in h (s.g ∷ s.gs) z) (Some (leb (4 * length s.gs + k - z) 38))
-answer h b s k z e = ap (λ (r : Option (List ℕ)). option_map is_narrow (r >>= λ gs. only_if (are_groups gs) (value_of h gs))) s.are ∙ decided h s.g s.gs k z e
+pub answer : (h : Header) (b : List ℕ) (s : Shown b) (k z : ℕ) → Ends s.g s.gs k z
+    → rest_of h b ≡ only_if (fits_in h (s.g ∷ s.gs) z) (Some (leb (4 * length s.gs + k - z) 38))
+answer h b s k z e =
+    ap (λ (r : Option (List ℕ)). option_map is_narrow (r >>= λ gs. only_if (are_groups gs) (value_of h gs))) s.are ∙ decided h s.g s.gs k z e
 
-pub too_long : (h : Header) (b : List ℕ) (s : Shown b) (k z : ℕ) → Ends s.g s.gs k z → h.dscale + z + 4 * (h.lift + 1) < 4 * (length s.gs + 1 + 2 ^ 15) → None ≡ rest_of h b
-too_long h b s k z e lt = sym (answer h b s k z e ∙ rw (lt-leb (4 * (length (s.g ∷ s.gs) + 2 ^ 15)) (h.dscale + z + 4 * (h.lift + 1)) (omega arith)) refl)
+pub too_long : (h : Header) (b : List ℕ) (s : Shown b) (k z : ℕ) → Ends s.g s.gs k z
+    → h.dscale + z + 4 * (h.lift + 1) < 4 * (length s.gs + 1 + 2 ^ 15) → None ≡ rest_of h b
+too_long h b s k z e lt =
+    sym (answer h b s k z e ∙ rw (lt-leb (4 * (length (s.g ∷ s.gs) + 2 ^ 15)) (h.dscale + z + 4 * (h.lift + 1)) (omega arith)) refl)
 
-pub narrow_if : (h : Header) (b : List ℕ) (s : Shown b) (k z m : ℕ) → Ends s.g s.gs k z → 4 * (length s.gs + 1 + 2 ^ 15) ≤ h.dscale + z + 4 * (h.lift + 1) → m ≡ length s.gs → Some (leb (4 * m + k) (38 + z)) ≡ rest_of h b
-narrow_if h b s k z m e le n = sym (answer h b s k z e ∙ rw (le-leb (4 * (length (s.g ∷ s.gs) + 2 ^ 15)) (h.dscale + z + 4 * (h.lift + 1)) (omega arith), n) (ap (λ (t : Bool). Some t) (moved (4 * length s.gs + k) z)))
+pub narrow_if : (h : Header) (b : List ℕ) (s : Shown b) (k z m : ℕ) → Ends s.g s.gs k z
+    → 4 * (length s.gs + 1 + 2 ^ 15) ≤ h.dscale + z + 4 * (h.lift + 1) → m ≡ length s.gs → Some (leb (4 * m + k) (38 + z)) ≡ rest_of h b
+narrow_if h b s k z m e le n =
+    sym
+    (answer h b s k z e
+    ∙ rw (le-leb (4 * (length (s.g ∷ s.gs) + 2 ^ 15)) (h.dscale + z + 4 * (h.lift + 1)) (omega arith), n)
+    (ap (λ (t : Bool). Some t) (moved (4 * length s.gs + k) z)))
   where
     moved : (a z : ℕ) → leb (a - z) 38 ≡ leb a (38 + z)
     moved a z = elim (cases_lt (38 + z) a) [
@@ -144,7 +161,8 @@ narrow_if h b s k z m e le n = sym (answer h b s k z e ∙ rw (le-leb (4 * (leng
       | inr le ↦ le-leb (a - z) 38 (omega arith) ∙ sym (le-leb a (38 + z) le)
     ]
 
-pub ends_are : (b : List ℕ) (s : Shown b) (k z f l : ℕ) → f ≡ s.g → l ≡ get_or (s.g ∷ s.gs) (length (s.g ∷ s.gs) - 1) 1 → 1 ≤ k → 10 ^ (k - 1) ≤ f → f < 10 ^ k → z ≤ 3 → (q : ℕ) × (l ≡ q * 10 ^ z) × (q % 10 ≡ 0 → ⊥) → Ends s.g s.gs k z
+pub ends_are : (b : List ℕ) (s : Shown b) (k z f l : ℕ) → f ≡ s.g → l ≡ get_or (s.g ∷ s.gs) (length (s.g ∷ s.gs) - 1) 1 → 1 ≤ k → 10 ^ (k - 1) ≤ f
+    → f < 10 ^ k → z ≤ 3 → (q : ℕ) × (l ≡ q * 10 ^ z) × (q % 10 ≡ 0 → ⊥) → Ends s.g s.gs k z
 ends_are b s k z f l ef el some least most few last = record {
   below = s.below;
   some = some;

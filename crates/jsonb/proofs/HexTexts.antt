@@ -90,7 +90,8 @@ Tells text OutOfMemory = Unit {0}
 not_odd : (text : List ℕ) (c place : ℕ) → length text % 2 ≡ 1 → decode_of text ≡ Err (InvalidHexCharacter c place) → ⊥
 not_odd text c place odd e = let o = decode_of-odd text odd in cc
 
-even_refused : (text : List ℕ) (error : FromHexError) (c place : ℕ) → decode_of text ≡ Err error → error ≡ InvalidHexCharacter c place → length text % 2 ≡ 0
+even_refused : (text : List ℕ) (error : FromHexError) (c place : ℕ) → decode_of text ≡ Err error → error ≡ InvalidHexCharacter c place
+    → length text % 2 ≡ 0
 even_refused text error c place e is =
     elim (cases_eq (length text % 2) 1) [
       | inl odd ↦ absurd (not_odd text c place odd (e ∙ ap Err is))

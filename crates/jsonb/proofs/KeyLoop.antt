@@ -9,7 +9,8 @@ use Rattle.jsonb.specs.Found.{both, text_found, keys_found, keys_after, nothing}
 use Rattle.jsonb.proofs.FoundLaws.{both_assoc, both_nothing}
 use Rattle.jsonb_layout.proofs.Tools.{count_down}
 
-regroup : (f : Found) (k : List ℕ) (r : Option (List (List ℕ) × Place)) → keys_after f (r >>= λ ks. Some (k ∷ ks.0, ks.1)) ≡ keys_after (both f (text_found k)) r
+regroup : (f : Found) (k : List ℕ) (r : Option (List (List ℕ) × Place))
+    → keys_after f (r >>= λ ks. Some (k ∷ ks.0, ks.1)) ≡ keys_after (both f (text_found k)) r
 regroup f k (Some x) = ap (λ (g : Found). Some (g, x.1)) (sym (both_assoc f (text_found k) (keys_found x.0)))
 regroup f k None = refl
 
@@ -35,7 +36,8 @@ key_stops {f = f} {count = count} {i = i} {b = b} {p = p} so_far lt h bad =
     sym one ∙ so_far.same
 
 pub key_goes_on : {f : Found} {count i : ℕ} {b : Option (List ℕ)} {p start q : Place} {x : Item} → KeysSoFar f count i b p start → i < count
-    → Some (x, q) ≡ item_at p → true ≡ (eqb x.kind 0 && follows b x.piece) → KeysSoFar (both f (text_found x.piece)) count (i + 1) (Some x.piece) q start
+    → Some (x, q) ≡ item_at p → true ≡ (eqb x.kind 0 && follows b x.piece)
+    → KeysSoFar (both f (text_found x.piece)) count (i + 1) (Some x.piece) q start
 unfolding keys_at
 key_goes_on {f = f} {count = count} {i = i} {b = b} {p = p} {q = q} {x = x} so_far lt h good =
     let rest = keys_at (count - (i + 1)) (Some x.piece) q in

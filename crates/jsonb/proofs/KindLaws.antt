@@ -72,10 +72,12 @@ module _ (k : Kind) (b : List ℕ) (stands : IsJsonTree (value_of k b)) where
   is = tree_is k b stands
 
   pub no_object : (k ≡ kinds.Container → ⊥) → None ≡ if_object (or_null (value_of k b))
-  no_object h = by_kind if_object None k _ is (λ _ _. refl) (λ _ _. refl) (λ _. refl) (λ _. refl) (λ _. refl) (λ e _. absurd (h e)) (λ e _. absurd (h e))
+  no_object h =
+      by_kind if_object None k _ is (λ _ _. refl) (λ _ _. refl) (λ _. refl) (λ _. refl) (λ _. refl) (λ e _. absurd (h e)) (λ e _. absurd (h e))
 
   pub no_array : (k ≡ kinds.Container → ⊥) → None ≡ if_array (or_null (value_of k b))
-  no_array h = by_kind if_array None k _ is (λ _ _. refl) (λ _ _. refl) (λ _. refl) (λ _. refl) (λ _. refl) (λ e _. absurd (h e)) (λ e _. absurd (h e))
+  no_array h =
+      by_kind if_array None k _ is (λ _ _. refl) (λ _ _. refl) (λ _. refl) (λ _. refl) (λ _. refl) (λ e _. absurd (h e)) (λ e _. absurd (h e))
 
   pub no_number : (k ≡ kinds.Number → ⊥) → None ≡ if_number (or_null (value_of k b))
   no_number h = by_kind if_number None k _ is (λ _ _. refl) (λ e _. absurd (h e)) (λ _. refl) (λ _. refl) (λ _. refl) (λ _ _. refl) (λ _ _. refl)
@@ -84,7 +86,8 @@ module _ (k : Kind) (b : List ℕ) (stands : IsJsonTree (value_of k b)) where
   no_string h = by_kind as_string None k _ is (λ e _. absurd (h e)) (λ _ _. refl) (λ _. refl) (λ _. refl) (λ _. refl) (λ _ _. refl) (λ _ _. refl)
 
   pub no_boolean : (k ≡ kinds.True → ⊥) → (k ≡ kinds.False → ⊥) → None ≡ as_boolean (or_null (value_of k b))
-  no_boolean h g = by_kind as_boolean None k _ is (λ _ _. refl) (λ _ _. refl) (λ e. absurd (g e)) (λ e. absurd (h e)) (λ _. refl) (λ _ _. refl) (λ _ _. refl)
+  no_boolean h g =
+      by_kind as_boolean None k _ is (λ _ _. refl) (λ _ _. refl) (λ e. absurd (g e)) (λ e. absurd (h e)) (λ _. refl) (λ _ _. refl) (λ _ _. refl)
 
   pub not_null : (k ≡ kinds.Null → ⊥) → false ≡ is_null (or_null (value_of k b))
   not_null h = by_kind is_null false k _ is (λ _ _. refl) (λ _ _. refl) (λ _. refl) (λ _. refl) (λ e. absurd (h e)) (λ _ _. refl) (λ _ _. refl)
@@ -114,7 +117,9 @@ module _ (k : Kind) (b : List ℕ) (stands : IsJsonTree (value_of k b)) where
       go t h = ap is_number (sym h.1)
 
   pub no_container : {A : Type 0} (x : Option A) → (k ≡ kinds.Container → ⊥) → None ≡ if_container (or_null (value_of k b)) x
-  no_container x h = by_kind (λ t. if_container t x) None k _ is (λ _ _. refl) (λ _ _. refl) (λ _. refl) (λ _. refl) (λ _. refl) (λ e _. absurd (h e)) (λ e _. absurd (h e))
+  no_container x h =
+      by_kind (λ t. if_container t x) None k _ is (λ _ _. refl) (λ _ _. refl) (λ _. refl) (λ _. refl) (λ _. refl) (λ e _. absurd (h e))
+      (λ e _. absurd (h e))
 
   pub container_is : {A : Type 0} (x : Option A) → k ≡ kinds.Container → x ≡ if_container (or_null (value_of k b)) x
   container_is {A = A} x e = go (or_null (value_of k b)) (subst (λ (j : Kind). TreeIs j (or_null (value_of k b))) e is)

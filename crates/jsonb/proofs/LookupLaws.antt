@@ -45,7 +45,9 @@ names_skip zero p r e = ap (λ (o : Option (List (List ℕ) × Place)). o >>= λ
 names_skip (suc n) p r e =
     let x = bind_some (item_at p) (λ x. names_at n x.1 >>= λ ks. Some (x.0.piece ∷ ks.0, ks.1)) r e in
     let ks = bind_some (names_at n x.0.1) (λ ks. some (x.0.0.piece ∷ ks.0, ks.1)) r x.2 in
-    ap (λ (o : Option (Item × Place)). o >>= λ x. skip n x.1) x.1 ∙ names_skip n x.0.1 ks.0 ks.1 ∙ ap (λ (o : Option (List (List ℕ) × Place)). o >>= λ r. some r.1) ks.2
+    ap (λ (o : Option (Item × Place)). o >>= λ x. skip n x.1) x.1
+    ∙ names_skip n x.0.1 ks.0 ks.1
+    ∙ ap (λ (o : Option (List (List ℕ) × Place)). o >>= λ r. some r.1) ks.2
 
 -- ---- what is found
 
@@ -73,16 +75,21 @@ module _ (k : List ℕ) (s c n m : ℕ) (total : suc n + m ≡ c) (p p' b q q' :
 
   parts : is_clean (members_found all) ≡ true → (is_clean (tree_found t) ≡ true) × (is_clean (members_found more) ≡ true)
   parts h =
-      let both_parts = both_clean (both (text_found x.piece) (tree_found t)) (members_found more) (subst (λ (ms : Members). is_clean (members_found ms) ≡ true) all_is h) in
+      let both_parts =
+      both_clean (both (text_found x.piece) (tree_found t)) (members_found more)
+      (subst (λ (ms : Members). is_clean (members_found ms) ≡ true) all_is h) in
       ((both_clean (text_found x.piece) (tree_found t) both_parts.0).1, both_parts.1)
 
   -- the first key is the key, or the rest of the walk decides
-  one_key : item_at p ≡ Some (x, p') → names_at n p' ≡ Some (ks, b) → skip m b ≡ Some q → item_at q ≡ Some (y, q') → item_tree q.at y ≡ Some t → is_clean (members_found all) ≡ true
-      → (is_clean (members_found more) ≡ true → (r : Option Place) → behind_key k n p' ≡ r → Outcome s c r (lookup k (pairs_in more)) (lookup k (member_seats s n p' q')))
+  one_key : item_at p ≡ Some (x, p') → names_at n p' ≡ Some (ks, b) → skip m b ≡ Some q → item_at q ≡ Some (y, q') → item_tree q.at y ≡ Some t
+      → is_clean (members_found all) ≡ true
+      → (is_clean (members_found more) ≡ true → (r : Option Place) → behind_key k n p' ≡ r
+      → Outcome s c r (lookup k (pairs_in more)) (lookup k (member_seats s n p' q')))
       → (r : Option Place) → behind_key k (suc n) p ≡ r → Outcome s c r (lookup k (pairs_in all)) (lookup k (member_seats s (suc n) p q))
   one_key ex en es ey et clean rest r er =
       subst (λ (ms : Members). Outcome s c r (lookup k (pairs_in ms)) (lookup k (member_seats s (suc n) p q))) (sym all_is)
-      (subst (λ (ss : List (List ℕ × Seat)). Outcome s c r (lookup k (pairs_in (member x.piece t more))) (lookup k ss)) (sym (members_step s n p p' q q' x y ex ey)) (go (bytes_eq k x.piece) r (sym (walk_on ex) ∙ er)))
+      (subst (λ (ss : List (List ℕ × Seat)). Outcome s c r (lookup k (pairs_in (member x.piece t more))) (lookup k ss))
+      (sym (members_step s n p p' q q' x y ex ey)) (go (bytes_eq k x.piece) r (sym (walk_on ex) ∙ er)))
     where
       here : IsFound s c p' (Some t) (Some (seat_at s q y))
       here =
@@ -100,14 +107,16 @@ module _ (k : List ℕ) (s c n m : ℕ) (total : suc n + m ≡ c) (p p' b q q' :
             seat_is = refl;
           }
 
-      go : (same : Bool) (r : Option Place) → cond same (Some p') (behind_key k n p') ≡ r → Outcome s c r (cond same (Some t) (lookup k (pairs_in more))) (cond same (Some (seat_at s q y)) (lookup k (member_seats s n p' q')))
+      go : (same : Bool) (r : Option Place) → cond same (Some p') (behind_key k n p') ≡ r
+          → Outcome s c r (cond same (Some t) (lookup k (pairs_in more))) (cond same (Some (seat_at s q y)) (lookup k (member_seats s n p' q')))
       go true r e = subst (λ (r : Option Place). Outcome s c r (Some t) (Some (seat_at s q y))) e here
       go false r e = rest (parts clean).1 r e
 
 same_end : (l l' : List (List ℕ)) (b b' : Place) → some {A = List (List ℕ) × Place} (l, b) ≡ some (l', b') → b ≡ b'
 same_end l l' b b' e = ap (λ (o : List (List ℕ) × Place). o.1) (some_is (l, b) (l', b') e)
 
-same_members : (l l' : List (List ℕ)) (b b' : Place) (ts ts' : Elements) (e e' : Place) → some {A = List (List ℕ) × Place} (l, b) ≡ some (l', b') → some {A = Elements × Place} (ts, e) ≡ some (ts', e') → members l' ts' ≡ members l ts
+same_members : (l l' : List (List ℕ)) (b b' : Place) (ts ts' : Elements) (e e' : Place) → some {A = List (List ℕ) × Place} (l, b) ≡ some (l', b')
+    → some {A = Elements × Place} (ts, e) ≡ some (ts', e') → members l' ts' ≡ members l ts
 same_members l l' b b' ts ts' e e' f g =
     ap (λ (a : List (List ℕ)). members a ts') (ap (λ (o : List (List ℕ) × Place). o.0) (some_is (l', b') (l, b) (sym f)))
     ∙ ap (λ (a : Elements). members l a) (ap (λ (o : Elements × Place). o.0) (some_is (ts', e') (ts, e) (sym g)))
@@ -119,7 +128,8 @@ walk_finds : (k : List ℕ) (s c n m : ℕ) → n + m ≡ c → (p b q end : Pla
 unfolding names_at elements_by behind_key member_seats
 walk_finds k s c zero m total p b q end ks ts en es ee clean r er =
     let none : ks ≡ [] = ap (λ (o : List (List ℕ) × Place). o.0) (some_is (ks, b) ([], p) (sym en)) in
-    subst (λ (l : List (List ℕ)). Outcome s c r (lookup k (pairs_in (members l ts))) None) (sym none) (subst (λ (r : Option Place). Outcome s c r None None) er (refl, refl))
+    subst (λ (l : List (List ℕ)). Outcome s c r (lookup k (pairs_in (members l ts))) None) (sym none)
+    (subst (λ (r : Option Place). Outcome s c r None None) er (refl, refl))
 walk_finds k s c (suc n) m total p b q end ks ts en es ee clean r er =
     let x = bind_some (item_at p) (λ x. names_at n x.1 >>= λ ks. Some (x.0.piece ∷ ks.0, ks.1)) (ks, b) en in
     let l = bind_some (names_at n x.0.1) (λ ks. some (x.0.0.piece ∷ ks.0, ks.1)) (ks, b) x.2 in
@@ -128,26 +138,30 @@ walk_finds k s c (suc n) m total p b q end ks ts en es ee clean r er =
     let us = bind_some (elements_by read n y.0.1) (λ ts. some (element t.0 ts.0, ts.1)) (ts, end) t.2 in
     let behind : skip m l.0.1 ≡ Some q = ap (skip m) (same_end (x.0.0.piece ∷ l.0.0) ks l.0.1 b l.2) ∙ es in
     let on : skip (m + 1) l.0.1 ≡ Some y.0.1 = skip_plus m 1 l.0.1 q behind ∙ skip_one q y.0.1 y.0.0 y.1 in
-    one_key k s c n m total p x.0.1 l.0.1 q y.0.1 x.0.0 y.0.0 l.0.0 t.0 (members ks ts) (members l.0.0 us.0.0) (same_members (x.0.0.piece ∷ l.0.0) ks l.0.1 b (element t.0 us.0.0) ts us.0.1 end l.2 us.2)
+    one_key k s c n m total p x.0.1 l.0.1 q y.0.1 x.0.0 y.0.0 l.0.0 t.0 (members ks ts) (members l.0.0 us.0.0)
+    (same_members (x.0.0.piece ∷ l.0.0) ks l.0.1 b (element t.0 us.0.0) ts us.0.1 end l.2 us.2)
     x.1 l.1 behind y.1 t.1 clean (walk_finds k s c n (m + 1) (omega (arith, total)) x.0.1 l.0.1 y.0.1 us.0.1 l.0.0 us.0.0 l.1 on us.1) r er
 
 -- ---- the object
 
-outcome : (k : List ℕ) (s c : ℕ) (p : Place) → IsJsonTree (object_at c p) → (r : Option Place) → r ≡ behind_key k c p → Outcome s c r (lookup k (pairs_of (or_null (object_at c p)))) (lookup k (seats_behind s c p))
+outcome : (k : List ℕ) (s c : ℕ) (p : Place) → IsJsonTree (object_at c p) → (r : Option Place) → r ≡ behind_key k c p
+    → Outcome s c r (lookup k (pairs_of (or_null (object_at c p)))) (lookup k (seats_behind s c p))
 unfolding skip
 outcome k s c p json r er =
     let o = holds c p json in
     let clean : is_clean (tree_found (object (members o.names o.trees))) ≡ true = subst IsJsonTree o.tree json in
     let n = keys_names c None p (o.names, o.behind) o.keys_are in
     let found = walk_finds k s c c 0 (omega arith) p o.behind o.behind o.end o.names o.trees n.0 refl o.values_are clean r (sym er) in
-    subst (λ (ss : List (List ℕ × Seat)). Outcome s c r (lookup k (pairs_of (or_null (object_at c p)))) (lookup k ss)) (seats_behind_is s c p o.behind (sym n.1))
+    subst (λ (ss : List (List ℕ × Seat)). Outcome s c r (lookup k (pairs_of (or_null (object_at c p)))) (lookup k ss))
+    (seats_behind_is s c p o.behind (sym n.1))
     (subst (λ (ps : List (List ℕ × Tree)). Outcome s c r (lookup k ps) (lookup k (member_seats s c p o.behind))) (sym (pairs_are c p json)) found)
 
 module _ (k : List ℕ) (o : JsonbObject) where
   abbrev pairs_here : List (List ℕ × Tree)
   pairs_here = pairs_of (object_tree o)
 
-  outcome_of : (r : Option Place) → r ≡ behind_key k o.keys.count (place o.keys.start) → Outcome o.keys.payload o.keys.count r (lookup k pairs_here) (lookup k (object_seats o))
+  outcome_of : (r : Option Place) → r ≡ behind_key k o.keys.count (place o.keys.start)
+      → Outcome o.keys.payload o.keys.count r (lookup k pairs_here) (lookup k (object_seats o))
   outcome_of r e = outcome k o.keys.payload o.keys.count (place o.keys.start) o.stands r e
 
   pub no_value : None ≡ behind_key k o.keys.count (place o.keys.start) → None ≡ lookup k (pairs_of (object_tree o))
@@ -176,7 +190,8 @@ module _ (k : List ℕ) (o : JsonbObject) where
       at_value = some_is found.value v (sym found.passed ∙ sym f)
 
       pub value_goes_on : None ≡ item_at v → ⊥
-      value_goes_on h = let no : ◌≡◌ {A = Option (Item × Place)} None (Some (found.item, found.after)) = h ∙ ap item_at (sym at_value) ∙ found.here in cc
+      value_goes_on h =
+          let no : ◌≡◌ {A = Option (Item × Place)} None (Some (found.item, found.after)) = h ∙ ap item_at (sym at_value) ∙ found.here in cc
 
       -- the value is behind the keys, in the same container
       pub value_behind : IsBehind (place o.keys.start) v

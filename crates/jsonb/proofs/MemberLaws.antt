@@ -108,7 +108,8 @@ length_trees (element t ts) = ap suc (length_trees ts)
 pub array_length : (c : ℕ) (p : Place) → IsJsonTree (array_at c p) → c ≡ length (elements_of (or_null (array_at c p)))
 array_length c p h = go (elements_by read c p) refl h
   where
-    go : (r : Option (Elements × Place)) → elements_by read c p ≡ r → IsJsonTree (r >>= λ r. some (array r.0)) → c ≡ length (elements_of (or_null (r >>= λ r. some (array r.0))))
+    go : (r : Option (Elements × Place)) → elements_by read c p ≡ r → IsJsonTree (r >>= λ r. some (array r.0))
+        → c ≡ length (elements_of (or_null (r >>= λ r. some (array r.0))))
     go None e h = absurd cc
     go (Some r) e h = sym (length_trees r.0 ∙ elements_count read c p r e)
 
@@ -126,7 +127,8 @@ pub record Holds (c : ℕ) (p : Place) : Type 0 where
 pub holds : (c : ℕ) (p : Place) → IsJsonTree (object_at c p) → Holds c p
 holds c p h = by_keys (keys_at c None p) refl h
   where
-    by_values : (k : List (List ℕ) × Place) → keys_at c None p ≡ Some k → (r : Option (Elements × Place)) → elements_by read c k.1 ≡ r → IsJsonTree (r >>= λ r. some (object (members k.0 r.0))) → Holds c p
+    by_values : (k : List (List ℕ) × Place) → keys_at c None p ≡ Some k → (r : Option (Elements × Place)) → elements_by read c k.1 ≡ r
+        → IsJsonTree (r >>= λ r. some (object (members k.0 r.0))) → Holds c p
     by_values k e None f h = absurd cc
     by_values k e (Some r) f h = record {
       names = k.0;
@@ -135,11 +137,14 @@ holds c p h = by_keys (keys_at c None p) refl h
       end = r.1;
       keys_are = e;
       values_are = f;
-      tree = ap (λ (o : Option (List (List ℕ) × Place)). o >>= λ k. elements_by read c k.1 >>= λ r. some (object (members k.0 r.0))) e ∙ ap (λ (o : Option (Elements × Place)). o >>= λ r. some (object (members k.0 r.0))) f;
+      tree =
+          ap (λ (o : Option (List (List ℕ) × Place)). o >>= λ k. elements_by read c k.1 >>= λ r. some (object (members k.0 r.0))) e
+          ∙ ap (λ (o : Option (Elements × Place)). o >>= λ r. some (object (members k.0 r.0))) f;
       counts = keys_count c p k e ∙ sym (elements_count read c k.1 r f);
     }
 
-    by_keys : (k : Option (List (List ℕ) × Place)) → keys_at c None p ≡ k → IsJsonTree (k >>= λ k. elements_by read c k.1 >>= λ r. some (object (members k.0 r.0))) → Holds c p
+    by_keys : (k : Option (List (List ℕ) × Place)) → keys_at c None p ≡ k
+        → IsJsonTree (k >>= λ k. elements_by read c k.1 >>= λ r. some (object (members k.0 r.0))) → Holds c p
     by_keys None e h = absurd cc
     by_keys (Some k) e h = by_values k e (elements_by read c k.1) refl h
 
@@ -165,21 +170,30 @@ module _ (c : ℕ) (p : Place) (json : IsJsonTree (object_at c p)) where
   pub object_rises : rises (map (λ (q : List ℕ × Tree). q.0) (pairs_of (or_null (object_at c p)))) ≡ true
   object_rises =
       let o = holds c p json in
-      ap (λ (l : List (List ℕ × Tree)). rises (map (λ (q : List ℕ × Tree). q.0) l)) pairs_are ∙ ap rises (names_of_pairs o.names o.trees o.counts) ∙ keys_rise c p (o.names, o.behind) o.keys_are
+      ap (λ (l : List (List ℕ × Tree)). rises (map (λ (q : List ℕ × Tree). q.0) l)) pairs_are
+      ∙ ap rises (names_of_pairs o.names o.trees o.counts)
+      ∙ keys_rise c p (o.names, o.behind) o.keys_are
 
 -- ---- keys that are read are names, and end where so many items end
 
-pub keys_names : (n : ℕ) (before : Option (List ℕ)) (p : Place) (r : List (List ℕ) × Place) → keys_at n before p ≡ Some r → (names_at n p ≡ Some r) × (skip n p ≡ Some r.1)
+pub keys_names : (n : ℕ) (before : Option (List ℕ)) (p : Place) (r : List (List ℕ) × Place) → keys_at n before p ≡ Some r
+    → (names_at n p ≡ Some r) × (skip n p ≡ Some r.1)
 unfolding keys_at names_at skip
 keys_names zero before p r e = (e, ap (option_map (λ (y : List (List ℕ) × Place). y.1)) e)
 keys_names (suc n) before p r e =
-    let a = bind_some (item_at p) (λ x. only_if (eqb x.0.kind 0 && follows before x.0.piece) (keys_at n (Some x.0.piece) x.1) >>= λ ks. Some (x.0.piece ∷ ks.0, ks.1)) r e in
-    let b = bind_some (only_if (eqb a.0.0.kind 0 && follows before a.0.0.piece) (keys_at n (Some a.0.0.piece) a.0.1)) (λ ks. Some (a.0.0.piece ∷ ks.0, ks.1)) r a.2 in
+    let a =
+    bind_some (item_at p)
+    (λ x. only_if (eqb x.0.kind 0 && follows before x.0.piece) (keys_at n (Some x.0.piece) x.1) >>= λ ks. Some (x.0.piece ∷ ks.0, ks.1)) r e in
+    let b =
+    bind_some (only_if (eqb a.0.0.kind 0 && follows before a.0.0.piece) (keys_at n (Some a.0.0.piece) a.0.1))
+    (λ ks. Some (a.0.0.piece ∷ ks.0, ks.1)) r a.2 in
     let g = guard (eqb a.0.0.kind 0 && follows before a.0.0.piece) (keys_at n (Some a.0.0.piece) a.0.1) b.0 b.1 in
     let more = keys_names n (Some a.0.0.piece) a.0.1 b.0 g.1 in
     put n p r a.0.0 a.0.1 b.0 a.1 more.0 more.1 b.2
   where
-    put : (n : ℕ) (p : Place) (r : List (List ℕ) × Place) (x : Item) (q : Place) (ks : List (List ℕ) × Place) → item_at p ≡ Some (x, q) → names_at n q ≡ Some ks → skip n q ≡ Some ks.1 → ◌≡◌ {A = Option (List (List ℕ) × Place)} (Some (x.piece ∷ ks.0, ks.1)) (Some r) → (names_at (suc n) p ≡ Some r) × (skip (suc n) p ≡ Some r.1)
+    put : (n : ℕ) (p : Place) (r : List (List ℕ) × Place) (x : Item) (q : Place) (ks : List (List ℕ) × Place) → item_at p ≡ Some (x, q)
+        → names_at n q ≡ Some ks → skip n q ≡ Some ks.1 → ◌≡◌ {A = Option (List (List ℕ) × Place)} (Some (x.piece ∷ ks.0, ks.1)) (Some r)
+        → (names_at (suc n) p ≡ Some r) × (skip (suc n) p ≡ Some r.1)
     put n p r x q ks e f g h = (rw (e, f) h, rw (e, g) (ap (option_map (λ (y : List (List ℕ) × Place). y.1)) h))
 
 -- no members are none
@@ -217,7 +231,8 @@ module _ (o : JsonbObject) where
     members_are =
         let same : parts.behind ≡ q = some_is parts.behind q (sym names_are.1 ∙ sym e) in
         ap (λ (r : Option (List (List ℕ) × Place)). r >>= λ k. elements_by read count_of q >>= λ r. some (members k.0 r.0)) names_are.0
-        ∙ ap (λ (r : Option (Elements × Place)). r >>= λ r. some (members parts.names r.0)) (ap (elements_by read count_of) (sym same) ∙ parts.values_are)
+        ∙ ap (λ (r : Option (Elements × Place)). r >>= λ r. some (members parts.names r.0))
+        (ap (elements_by read count_of) (sym same) ∙ parts.values_are)
 
     pub members_stand : AreJsonMembers (members_at o.keys.count (place o.keys.start) q)
     members_stand =
@@ -261,7 +276,8 @@ pub values_none : (n : ℕ) (q : Place) → item_at q ≡ None → elements_by r
 unfolding elements_by
 values_none n q e = rw e refl
 
-pub values_some : (n : ℕ) (q q' : Place) (y : Item) → item_at q ≡ Some (y, q') → elements_by read (suc n) q ≡ (item_tree q.at y >>= λ t. elements_by read n q' >>= λ ts. Some (element t ts.0, ts.1))
+pub values_some : (n : ℕ) (q q' : Place) (y : Item) → item_at q ≡ Some (y, q')
+    → elements_by read (suc n) q ≡ (item_tree q.at y >>= λ t. elements_by read n q' >>= λ ts. Some (element t ts.0, ts.1))
 unfolding elements_by
 values_some n q q' y e = rw e refl
 
@@ -276,29 +292,39 @@ both_none : (a : Option (List (List ℕ) × Place)) → both_of a None ≡ None
 both_none None = refl
 both_none (Some k) = refl
 
-pub next_member : (n : ℕ) (p p' q q' : Place) (x y : Item) → item_at p ≡ Some (x, p') → item_at q ≡ Some (y, q') → AreJsonMembers (members_at (suc n) p q) → NextMember n p q x y p' q'
+pub next_member : (n : ℕ) (p p' q q' : Place) (x y : Item) → item_at p ≡ Some (x, p') → item_at q ≡ Some (y, q')
+    → AreJsonMembers (members_at (suc n) p q) → NextMember n p q x y p' q'
 next_member n p p' q q' x y e f json = go (names_at n p') refl (item_tree q.at y) refl (elements_by read n q') refl (subst AreJsonMembers made json)
   where
     made : members_at (suc n) p q ≡ both_of (names_at n p' >>= λ ks. Some (x.piece ∷ ks.0, ks.1)) (item_tree q.at y >>= λ t. elements_by read n q' >>= λ ts. Some (element t ts.0, ts.1))
-    made = ap (λ (a : Option (List (List ℕ) × Place)). both_of a (elements_by read (suc n) q)) (names_some n p p' x e) ∙ ap (both_of (names_at n p' >>= λ ks. Some (x.piece ∷ ks.0, ks.1))) (values_some n q q' y f)
+    made =
+        ap (λ (a : Option (List (List ℕ) × Place)). both_of a (elements_by read (suc n) q)) (names_some n p p' x e)
+        ∙ ap (both_of (names_at n p' >>= λ ks. Some (x.piece ∷ ks.0, ks.1))) (values_some n q q' y f)
 
-    go : (a : Option (List (List ℕ) × Place)) → names_at n p' ≡ a → (t : Option Tree) → item_tree q.at y ≡ t → (r : Option (Elements × Place)) → elements_by read n q' ≡ r
-        → AreJsonMembers (both_of (a >>= λ ks. Some (x.piece ∷ ks.0, ks.1)) (t >>= λ t. r >>= λ ts. Some (element t ts.0, ts.1))) → NextMember n p q x y p' q'
+    go : (a : Option (List (List ℕ) × Place)) → names_at n p' ≡ a → (t : Option Tree) → item_tree q.at y ≡ t → (r : Option (Elements × Place))
+        → elements_by read n q' ≡ r
+        → AreJsonMembers (both_of (a >>= λ ks. Some (x.piece ∷ ks.0, ks.1)) (t >>= λ t. r >>= λ ts. Some (element t ts.0, ts.1)))
+        → NextMember n p q x y p' q'
     go None ea t et r er h = absurd cc
     go (Some ks) ea None et r er h = absurd cc
     go (Some ks) ea (Some t) et None er h = absurd cc
     go (Some ks) ea (Some t) et (Some ts) er h =
         let parts = both_clean (both (text_found x.piece) (tree_found t)) (members_found (members ks.0 ts.0)) h in
         let first = both_clean (text_found x.piece) (tree_found t) parts.0 in
-        let rest : members_at n p' q' ≡ Some (members ks.0 ts.0) = ap (λ (a : Option (List (List ℕ) × Place)). both_of a (elements_by read n q')) ea ∙ ap (both_of (Some ks)) er in
+        let rest : members_at n p' q' ≡ Some (members ks.0 ts.0) =
+        ap (λ (a : Option (List (List ℕ) × Place)). both_of a (elements_by read n q')) ea ∙ ap (both_of (Some ks)) er in
         record {
           name = text_clean x.piece first.0;
           value = subst IsJsonTree (sym et) first.1;
           more = subst AreJsonMembers (sym rest) parts.1;
           pairs =
               ap or_none made
-              ∙ ap (λ (a : Option (List (List ℕ) × Place)). or_none (both_of (a >>= λ ks. Some (x.piece ∷ ks.0, ks.1)) (item_tree q.at y >>= λ t. elements_by read n q' >>= λ ts. Some (element t ts.0, ts.1)))) ea
-              ∙ ap (λ (o : Option Tree). or_none (both_of (Some (x.piece ∷ ks.0, ks.1)) (o >>= λ t. elements_by read n q' >>= λ ts. Some (element t ts.0, ts.1)))) et
+              ∙ ap
+              (λ (a : Option (List (List ℕ) × Place)). or_none (both_of (a >>= λ ks. Some (x.piece ∷ ks.0, ks.1)) (item_tree q.at y >>= λ t. elements_by read n q' >>= λ ts. Some (element t ts.0, ts.1))))
+              ea
+              ∙ ap
+              (λ (o : Option Tree). or_none (both_of (Some (x.piece ∷ ks.0, ks.1)) (o >>= λ t. elements_by read n q' >>= λ ts. Some (element t ts.0, ts.1))))
+              et
               ∙ ap (λ (o : Option (Elements × Place)). or_none (both_of (Some (x.piece ∷ ks.0, ks.1)) (o >>= λ ts. Some (element t ts.0, ts.1)))) er
               ∙ ap (λ (o : Option Tree). (x.piece, or_null o) ∷ pairs_in (members ks.0 ts.0)) (sym et)
               ∙ ap (λ (o : Option Members). (x.piece, or_null (item_tree q.at y)) ∷ or_none o) (sym rest);
@@ -308,12 +334,20 @@ next_member n p p' q q' x y e f json = go (names_at n p') refl (item_tree q.at y
         or_none r = or_no_pairs (r >>= λ ms. some_list (pairs_in ms))
 
 -- where a member is left there are items for its key and value
-pub member_there : (n : ℕ) (p q : Place) → AreJsonMembers (members_at (suc n) p q) → (x : Item × Place) × (item_at p ≡ Some x) × ((y : Item × Place) × (item_at q ≡ Some y))
+pub member_there : (n : ℕ) (p q : Place) → AreJsonMembers (members_at (suc n) p q)
+    → (x : Item × Place) × (item_at p ≡ Some x) × ((y : Item × Place) × (item_at q ≡ Some y))
 member_there n p q json = go (item_at p) refl (item_at q) refl
   where
-    go : (a : Option (Item × Place)) → item_at p ≡ a → (b : Option (Item × Place)) → item_at q ≡ b → (x : Item × Place) × (item_at p ≡ Some x) × ((y : Item × Place) × (item_at q ≡ Some y))
-    go None e b f = let h : AreJsonMembers None = subst AreJsonMembers (ap (λ (a : Option (List (List ℕ) × Place)). both_of a (elements_by read (suc n) q)) (names_none n p e)) json in absurd cc
-    go (Some x) e None f = let h : AreJsonMembers None = subst AreJsonMembers (ap (both_of (names_at (suc n) p)) (values_none n q f) ∙ both_none (names_at (suc n) p)) json in absurd cc
+    go : (a : Option (Item × Place)) → item_at p ≡ a → (b : Option (Item × Place)) → item_at q ≡ b
+        → (x : Item × Place) × (item_at p ≡ Some x) × ((y : Item × Place) × (item_at q ≡ Some y))
+    go None e b f =
+        let h : AreJsonMembers None =
+        subst AreJsonMembers (ap (λ (a : Option (List (List ℕ) × Place)). both_of a (elements_by read (suc n) q)) (names_none n p e)) json in
+        absurd cc
+    go (Some x) e None f =
+        let h : AreJsonMembers None =
+        subst AreJsonMembers (ap (both_of (names_at (suc n) p)) (values_none n q f) ∙ both_none (names_at (suc n) p)) json in
+        absurd cc
     go (Some x) e (Some y) f = (x, e, (y, f))
 
 module _ (m : JsonbMembers) (some_left : 0 < m.values.count) where
@@ -332,7 +366,8 @@ module _ (m : JsonbMembers) (some_left : 0 < m.values.count) where
   pub keys_go_on : None ≡ item_at (place m.keys) → ⊥
   keys_go_on e =
       let no_names = names_none more_left key_here (sym e) in
-      let h : AreJsonMembers None = subst AreJsonMembers (ap (λ (a : Option (List (List ℕ) × Place)). both_of a (elements_by read (suc more_left) value_here)) no_names) full in
+      let h : AreJsonMembers None =
+      subst AreJsonMembers (ap (λ (a : Option (List (List ℕ) × Place)). both_of a (elements_by read (suc more_left) value_here)) no_names) full in
       cc
 
   pub values_go_on : None ≡ item_at (place m.values.start) → ⊥

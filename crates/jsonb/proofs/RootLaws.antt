@@ -30,7 +30,8 @@ use Rattle.jsonb.proofs.TreeCauses.{of_text, of_narrow, text_of, json_of, differ
 
 -- ---- what is computed is the relation
 
-pub answers : (b : List ℕ) → IsBytes b → (r : Result JsonbNode JsonbError) → Reads (tree_of b) r → (r ≡ Err errors.OutOfMemory) ⊎ IsRead b (read_tree r)
+pub answers : (b : List ℕ) → IsBytes b → (r : Result JsonbNode JsonbError) → Reads (tree_of b) r
+    → (r ≡ Err errors.OutOfMemory) ⊎ IsRead b (read_tree r)
 answers b fits (Ok n) (e, clean) = inr (tree_takes b (node_tree n) fits e, json_of (node_tree n) clean)
 answers b fits (Err errors.Malformed) e = inr (λ t h. let k : None ≡ Some t = sym e ∙ tree_again b t h in absurd cc)
 answers b fits (Err errors.NotText) h = inr (go (tree_of b) refl h)
@@ -40,12 +41,14 @@ answers b fits (Err errors.NotText) h = inr (go (tree_of b) refl h)
     go (Some t) e h = (t, tree_takes b t fits e, λ text. differ (tree_found t).not_text h (of_text t text))
 answers b fits (Err errors.NumberTooWide) h = inr (go (tree_of b) refl h)
   where
-    go : (r : Option Tree) → tree_of b ≡ r → IsSomeAnd r (λ t. ((tree_found t).not_text ≡ false) × ((tree_found t).wide ≡ true)) → Cause b errors.NumberTooWide
+    go : (r : Option Tree) → tree_of b ≡ r → IsSomeAnd r (λ t. ((tree_found t).not_text ≡ false) × ((tree_found t).wide ≡ true))
+        → Cause b errors.NumberTooWide
     go None e h = absurd h
     go (Some t) e h = (t, tree_takes b t fits e, text_of t h.0, λ narrow. differ (tree_found t).wide h.1 (of_narrow t narrow))
 answers b fits (Err errors.OutOfMemory) h = inl refl
 
-pub never_wants : (b : List ℕ) (r : Result JsonbNode JsonbError) → Reads (tree_of b) r → (t : Tree) → Stands b t → nest t ≤ 1 → r ≡ Err errors.OutOfMemory → ⊥
+pub never_wants : (b : List ℕ) (r : Result JsonbNode JsonbError) → Reads (tree_of b) r → (t : Tree) → Stands b t → nest t ≤ 1
+    → r ≡ Err errors.OutOfMemory → ⊥
 never_wants b (Ok n) h t s low e = absurd cc
 never_wants b (Err errors.Malformed) h t s low e = absurd cc
 never_wants b (Err errors.NotText) h t s low e = absurd cc
@@ -121,7 +124,8 @@ lone_is_item x f e = go (scalar_of 0 x) refl e
     go None h e = absurd cc
     go (Some s) h e = sym (rw (ne_eqb x.kind 5 (not_five x s h)) refl)
 
-pub lone_node : (x : Item) (f : Found) (n : JsonbNode) → Some f ≡ option_map scalar_found (scalar_of 0 x) → is_clean f ≡ true → Some (node_tree n) ≡ item_tree 0 x → (lone_tree x ≡ Some (node_tree n)) × (is_clean (tree_found (node_tree n)) ≡ true)
+pub lone_node : (x : Item) (f : Found) (n : JsonbNode) → Some f ≡ option_map scalar_found (scalar_of 0 x) → is_clean f ≡ true
+    → Some (node_tree n) ≡ item_tree 0 x → (lone_tree x ≡ Some (node_tree n)) × (is_clean (tree_found (node_tree n)) ≡ true)
 lone_node x f n e clean same =
     let is : lone_tree x ≡ Some (node_tree n) = lone_is_item x f e ∙ sym same in
     (is, ap is_clean (some_is (tree_found (node_tree n)) f (sym (ap (option_map tree_found) is) ∙ lone_found x f e)) ∙ clean)
@@ -131,10 +135,12 @@ lone_node x f n e clean same =
 abbrev pub whole : List ℕ → Seat
 whole b = record { at = 0; kind = 5; bytes = b }
 
-pub container_root : (b : List ℕ) → IsBytes b → (r : Result JsonbNode JsonbError) → Reads (read b) r → IfOk r (λ n. node_seat n ≡ whole b) → IfOk r (λ n. IsRoot b (node_seat n))
+pub container_root : (b : List ℕ) → IsBytes b → (r : Result JsonbNode JsonbError) → Reads (read b) r → IfOk r (λ n. node_seat n ≡ whole b)
+    → IfOk r (λ n. IsRoot b (node_seat n))
 container_root b fits (Ok n) h e = subst (IsRoot b) (sym e) (container_is_root b (node_tree n) fits h.0)
 container_root b fits (Err x) h e = tt
 
-pub scalar_root : (b : List ℕ) (x : Item) → IsBytes b → Some x ≡ lone_item b → (r : Result JsonbNode JsonbError) → IfOk r (λ n. node_seat n ≡ item_seat 0 1 [] x) → IfOk r (λ n. IsRoot b (node_seat n))
+pub scalar_root : (b : List ℕ) (x : Item) → IsBytes b → Some x ≡ lone_item b → (r : Result JsonbNode JsonbError)
+    → IfOk r (λ n. node_seat n ≡ item_seat 0 1 [] x) → IfOk r (λ n. IsRoot b (node_seat n))
 scalar_root b x fits e (Ok n) h = subst (IsRoot b) (sym h) (lone_is_root b x fits (sym e))
 scalar_root b x fits e (Err y) h = tt

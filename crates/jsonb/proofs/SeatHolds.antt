@@ -29,7 +29,8 @@ holder at b = record { at = at; kind = 5; bytes = b }
 
 module _ (at s : ℕ) (b : List ℕ) (json : IsJsonTree (read b)) {c : ℕ} {p : Place} where
   pub array_holds : Some (Array, c, p) ≡ opened b → IsBytes b → s ≡ at + 4 + length p.words → AreHeld (holder at b) (seats_at s c p)
-  array_holds e fits is = subst (λ (n : ℕ). AreHeld (holder at b) (seats_at n c p)) (sym is) (array_held at c b p _ fits (sym e) (array_read b json c p e).1)
+  array_holds e fits is =
+      subst (λ (n : ℕ). AreHeld (holder at b) (seats_at n c p)) (sym is) (array_held at c b p _ fits (sym e) (array_read b json c p e).1)
 
   pub object_holds : Some (Object, c, p) ≡ opened b → IsBytes b → s ≡ at + 4 + length p.words → AreHeld (holder at b) (values_of (seats_behind s c p))
   object_holds e fits is =
@@ -53,5 +54,6 @@ object_trees o =
     ∙ members_pairs o behind
 
 -- where the keys end, the seats of the members are told
-pub seats_are : (o : JsonbObject) {q : Place} → Some q ≡ skip o.keys.count (place o.keys.start) → member_seats o.keys.payload o.keys.count (place o.keys.start) q ≡ object_seats o
+pub seats_are : (o : JsonbObject) {q : Place} → Some q ≡ skip o.keys.count (place o.keys.start)
+    → member_seats o.keys.payload o.keys.count (place o.keys.start) q ≡ object_seats o
 seats_are o {q = q} e = seats_behind_is o.keys.payload o.keys.count (place o.keys.start) q e

@@ -79,12 +79,14 @@ element_seats s (suc n) p json =
 
 -- ---- members
 
-pub members_step : (s n : ℕ) (p p' q q' : Place) (x y : Item) → item_at p ≡ Some (x, p') → item_at q ≡ Some (y, q') → member_seats s (suc n) p q ≡ (x.piece, seat_at s q y) ∷ member_seats s n p' q'
+pub members_step : (s n : ℕ) (p p' q q' : Place) (x y : Item) → item_at p ≡ Some (x, p') → item_at q ≡ Some (y, q')
+    → member_seats s (suc n) p q ≡ (x.piece, seat_at s q y) ∷ member_seats s n p' q'
 unfolding member_seats
 members_step s n p p' q q' x y e f = rw (e, f) refl
 
 -- the first member that is left, and the others
-pub members_go_on : (m : JsonbMembers) {x y : Item} {p q : Place} → 0 < m.values.count → Some (x, p) ≡ item_at (place m.keys) → Some (y, q) ≡ item_at (place m.values.start)
+pub members_go_on : (m : JsonbMembers) {x y : Item} {p q : Place} → 0 < m.values.count → Some (x, p) ≡ item_at (place m.keys)
+    → Some (y, q) ≡ item_at (place m.values.start)
     → members_left m ≡ (x.piece, seat_at m.values.payload (place m.values.start) y) ∷ member_seats m.values.payload (m.values.count - 1) p q
 members_go_on m {x = x} {y = y} {p = p} {q = q} lt e f =
     ap (λ (k : ℕ). member_seats m.values.payload k (place m.keys) (place m.values.start)) (sym (less_one m.values.count lt))
@@ -117,7 +119,8 @@ member_values s (suc n) p q r e =
     let ks = bind_some (names_at n x.0.1) (λ ks. some (x.0.0.piece ∷ ks.0, ks.1)) r x.2 in
     go x.0 x.1 (item_at q) refl (λ y. member_values s n x.0.1 y ks.0 ks.1)
   where
-    go : (x : Item × Place) → item_at p ≡ Some x → (y : Option (Item × Place)) → item_at q ≡ y → ((q' : Place) → values_of (member_seats s n x.1 q') ≡ seats_at s n q')
+    go : (x : Item × Place) → item_at p ≡ Some x → (y : Option (Item × Place)) → item_at q ≡ y
+        → ((q' : Place) → values_of (member_seats s n x.1 q') ≡ seats_at s n q')
         → values_of (member_seats s (suc n) p q) ≡ seats_at s (suc n) q
     go x e None f more = rw (e, f) refl
     go x e (Some y) f more = rw (e, f) (ap (λ (cs : List Seat). seat_at s q y.0 ∷ cs) (more y.1))
@@ -126,7 +129,12 @@ member_values s (suc n) p q r e =
 
 -- the nodes of the elements that are left have the trees of their seats
 pub elements_given : (c : Cursor) (ts : List Tree) → map seat_tree (seats_left c) ≡ ts → Gives (YieldsFirstBy node_seat seats_left) node_tree c ts
-elements_given c ts e = subst (λ (us : List Tree). Gives (YieldsFirstBy node_seat seats_left) node_tree c us) e (gives_through node_seat seats_left seat_tree node_tree node_is_seat c)
+elements_given c ts e =
+    subst (λ (us : List Tree). Gives (YieldsFirstBy node_seat seats_left) node_tree c us) e
+    (gives_through node_seat seats_left seat_tree node_tree node_is_seat c)
 
-pub members_given : (m : JsonbMembers) (ps : List (List ℕ × Tree)) → map member_tree (members_left m) ≡ ps → Gives (YieldsFirstBy member_seat members_left) pair_tree m ps
-members_given m ps e = subst (λ (qs : List (List ℕ × Tree)). Gives (YieldsFirstBy member_seat members_left) pair_tree m qs) e (gives_through member_seat members_left member_tree pair_tree pair_is_seat m)
+pub members_given : (m : JsonbMembers) (ps : List (List ℕ × Tree)) → map member_tree (members_left m) ≡ ps
+    → Gives (YieldsFirstBy member_seat members_left) pair_tree m ps
+members_given m ps e =
+    subst (λ (qs : List (List ℕ × Tree)). Gives (YieldsFirstBy member_seat members_left) pair_tree m qs) e
+    (gives_through member_seat members_left member_tree pair_tree pair_is_seat m)

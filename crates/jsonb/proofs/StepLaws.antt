@@ -24,7 +24,9 @@ module _ (frame : Frame) (old new : List Frame) (none : frame.left ≡ 0) (over 
   ended_frame : frame_found frame ≡ Some nothing
   ended_frame = at_end frame.left (place frame.start) none over
 
-  popped_from : (next : Option Frame) → frames_found old ≡ combine (next_found next) (frames_found new) → next_weight next + frames_weight new ≡ frames_weight old → (next ≡ None → new ≡ []) → StaysFlat frame old new next → Moves frame old new nothing next
+  popped_from : (next : Option Frame) → frames_found old ≡ combine (next_found next) (frames_found new)
+      → next_weight next + frames_weight new ≡ frames_weight old → (next ≡ None → new ≡ []) → StaysFlat frame old new next
+      → Moves frame old new nothing next
   popped_from next e w last flat = record {
     so_far = ap (λ (a : Option Found). combine a (frames_found old)) ended_frame ∙ ap (combine (Some nothing)) e;
     smaller = omega (arith, w);
@@ -32,11 +34,13 @@ module _ (frame : Frame) (old new : List Frame) (none : frame.left ≡ 0) (over 
     flat = flat;
   }
 
-  pub popped : (next : Option Frame) (len after : ℕ) → old ≡ new ++ option_to_list next → new ≡ take (len - 1) old → MatchOption next ((len ≡ 0) × (after ≡ 0)) (λ _. after + 1 ≡ len) → Moves frame old new nothing next
+  pub popped : (next : Option Frame) (len after : ℕ) → old ≡ new ++ option_to_list next → new ≡ take (len - 1) old
+      → MatchOption next ((len ≡ 0) × (after ≡ 0)) (λ _. after + 1 ≡ len) → Moves frame old new nothing next
   popped None len after e rest cases =
       let gone : new ≡ [] = rest ∙ ap (λ (k : ℕ). take (k - 1) old) cases.0 in
       let same : old ≡ new = e ∙ append-nil new in
-      popped_from None (ap frames_found same ∙ sym (nothing_combine (frames_found new))) (omega (arith, ap frames_weight same)) (λ _. gone) (λ g h f o. (gone, tt))
+      popped_from None (ap frames_found same ∙ sym (nothing_combine (frames_found new))) (omega (arith, ap frames_weight same)) (λ _. gone)
+      (λ g h f o. (gone, tt))
   popped (Some f) len after e rest cases =
       let p = put_off new old f e in
       popped_from (Some f) p.0 (sym p.1) (λ h. absurd cc) (λ g h s o. absurd (omega (arith, ap length (sym e ∙ o), length-append new (f ∷ []))))
@@ -60,9 +64,11 @@ module _ (frame : Frame) (x : Item) (q : Place) (some : frame.left ≡ 0 → ⊥
         ∙ ap (λ (a : Option Found). combine a (rest_found (frame.left - 1) q)) is
         ∙ combine_assoc (Some f) (next_found inner) (rest_found (frame.left - 1) q)
 
-    pub took_scalar : (old : List Frame) (rest : Frame) → rest.left ≡ frame.left - 1 → place rest.start ≡ q → inner ≡ None → Moves frame old old f (Some rest)
+    pub took_scalar : (old : List Frame) (rest : Frame) → rest.left ≡ frame.left - 1 → place rest.start ≡ q → inner ≡ None
+        → Moves frame old old f (Some rest)
     took_scalar old rest left at none =
-        let rest_is : rest_found (frame.left - 1) q ≡ frame_found rest = ap (λ (n : ℕ). rest_found n q) (sym left) ∙ ap (rest_found rest.left) (sym at) in
+        let rest_is : rest_found (frame.left - 1) q ≡ frame_found rest =
+        ap (λ (n : ℕ). rest_found n q) (sym left) ∙ ap (rest_found rest.left) (sym at) in
         record {
           so_far =
               ap (λ (a : Option Found). combine a (frames_found old)) (
@@ -72,22 +78,31 @@ module _ (frame : Frame) (x : Item) (q : Place) (some : frame.left ≡ 0 → ⊥
               ∙ combine_assoc (Some f) (frame_found rest) (frames_found old);
           smaller = omega (arith, ap size at, size_left);
           last = λ h. absurd cc;
-          flat = λ g there flat o. (o, λ r h. stays_flat frame.left (place frame.start) q x more reads g there flat r (ap (λ (n : ℕ). elements_by read n q) (sym left) ∙ ap (elements_by read rest.left) (sym at) ∙ h));
+          flat =
+              λ g there flat o. (o, λ r h. stays_flat frame.left (place frame.start) q x more reads g there flat r (ap (λ (n : ℕ). elements_by read n q) (sym left) ∙ ap (elements_by read rest.left) (sym at) ∙ h));
         }
 
-    pub took_inside : (old new : List Frame) (i : Frame) → inner ≡ Some i → IsInside (place frame.start).at x → next_weight inner ≤ length x.piece → frames_found new ≡ combine (rest_found (frame.left - 1) q) (frames_found old) → frames_weight new ≤ size q + 1 + frames_weight old → Moves frame old new f (Some i)
+    pub took_inside : (old new : List Frame) (i : Frame) → inner ≡ Some i → IsInside (place frame.start).at x → next_weight inner ≤ length x.piece
+        → frames_found new ≡ combine (rest_found (frame.left - 1) q) (frames_found old) → frames_weight new ≤ size q + 1 + frames_weight old
+        → Moves frame old new f (Some i)
     took_inside old new i is_there inside weight e w = record {
       so_far =
           ap (λ (a : Option Found). combine a (frames_found old)) value_is
           ∙ combine_assoc (Some f) (combine (next_found inner) (rest_found (frame.left - 1) q)) (frames_found old)
-          ∙ ap (combine (Some f)) (combine_assoc (next_found inner) (rest_found (frame.left - 1) q) (frames_found old) ∙ ap (combine (next_found inner)) (sym e) ∙ ap (λ (j : Option Frame). combine (next_found j) (frames_found new)) is_there);
+          ∙ ap (combine (Some f))
+          (combine_assoc (next_found inner) (rest_found (frame.left - 1) q) (frames_found old)
+          ∙ ap (combine (next_found inner)) (sym e)
+          ∙ ap (λ (j : Option Frame). combine (next_found j) (frames_found new)) is_there);
       smaller = omega (arith, size_left, weight, w, ap next_weight is_there);
       last = λ h. absurd cc;
       flat = λ g there flat o. absurd (no_inside_there g there flat inside);
     }
 
     pub not_put_off : (e : JsonbError) → IsInside (place frame.start).at x → SuspendCause (rest_found (frame.left - 1) q) e → StepCause frame e
-    not_put_off errors.Malformed inside h = value_is ∙ ap (λ (a : Option Found). combine (Some f) (combine (next_found inner) a)) h ∙ ap (combine (Some f)) (combine_none (next_found inner))
+    not_put_off errors.Malformed inside h =
+        value_is
+        ∙ ap (λ (a : Option Found). combine (Some f) (combine (next_found inner) a)) h
+        ∙ ap (combine (Some f)) (combine_none (next_found inner))
     not_put_off errors.NotText inside h = h
     not_put_off errors.NumberTooWide inside h = h
     not_put_off errors.OutOfMemory inside h = λ g there flat. no_inside_there g there flat inside
@@ -96,8 +111,10 @@ pub inside_is : (inner : Option Frame) (i : Frame) (P : Type 0) → inner ≡ So
 inside_is None i P e h = absurd cc
 inside_is (Some j) i P e h = h
 
-pub refused_item : (frame : Frame) (x : Item) (q : Place) → (frame.left ≡ 0 → ⊥) → Some (x, q) ≡ item_at (place frame.start) → option_map tree_found (item_tree (place frame.start).at x) ≡ None → frame_found frame ≡ None
-refused_item frame x q some reads e = rest_some frame.left (place frame.start) (omega arith) x q reads ∙ ap (λ (a : Option Found). combine a (rest_found (frame.left - 1) q)) e
+pub refused_item : (frame : Frame) (x : Item) (q : Place) → (frame.left ≡ 0 → ⊥) → Some (x, q) ≡ item_at (place frame.start)
+    → option_map tree_found (item_tree (place frame.start).at x) ≡ None → frame_found frame ≡ None
+refused_item frame x q some reads e =
+    rest_some frame.left (place frame.start) (omega arith) x q reads ∙ ap (λ (a : Option Found). combine a (rest_found (frame.left - 1) q)) e
 
 pub no_item : (frame : Frame) → (frame.left ≡ 0 → ⊥) → None ≡ item_at (place frame.start) → frame_found frame ≡ None
 no_item frame some e = rest_none frame.left (place frame.start) (omega arith) e
@@ -109,9 +126,13 @@ pub record SoFar (b : List ℕ) (found : Found) (current : Option Frame) (suspen
   pub last : current ≡ None → suspended ≡ []
   pub flat : (t : Tree) → read b ≡ Some t → nest t ≤ 1 → (suspended ≡ []) × IfSome current HoldsScalars
 
-pub starts : (b : List ℕ) (f : Found) (top : Frame) (none : List Frame) → none ≡ [] → container_found b ≡ combine (Some f) (frame_found top) → ((t : Tree) → read b ≡ Some t → nest t ≤ 1 → HoldsScalars top) → SoFar b f (Some top) none
+pub starts : (b : List ℕ) (f : Found) (top : Frame) (none : List Frame) → none ≡ [] → container_found b ≡ combine (Some f) (frame_found top)
+    → ((t : Tree) → read b ≡ Some t → nest t ≤ 1 → HoldsScalars top) → SoFar b f (Some top) none
 starts b f top none empty e flat = record {
-  so_far = ap (λ (fs : List Frame). combine (Some f) (combine (frame_found top) (frames_found fs))) empty ∙ ap (combine (Some f)) (combine_nothing (frame_found top)) ∙ sym e;
+  so_far =
+      ap (λ (fs : List Frame). combine (Some f) (combine (frame_found top) (frames_found fs))) empty
+      ∙ ap (combine (Some f)) (combine_nothing (frame_found top))
+      ∙ sym e;
   last = λ h. empty;
   flat = λ t is low. (empty, flat t is low);
 }
@@ -124,7 +145,8 @@ module _ (b : List ℕ) (found : Found) (frame : Frame) (current : Option Frame)
   there : (t : Tree) → read b ≡ Some t → (g : Found) × (frame_found frame ≡ Some g)
   there t is = go (combine (frame_found frame) (frames_found old)) refl (at_frame ∙ ap (option_map tree_found) is)
     where
-      go : (a : Option Found) → combine (frame_found frame) (frames_found old) ≡ a → combine (Some found) a ≡ Some (tree_found t) → (g : Found) × (frame_found frame ≡ Some g)
+      go : (a : Option Found) → combine (frame_found frame) (frames_found old) ≡ a → combine (Some found) a ≡ Some (tree_found t)
+          → (g : Found) × (frame_found frame ≡ Some g)
       go None e h = absurd cc
       go (Some g) e h = combine_some (frame_found frame) (frames_found old) g e
 
@@ -141,7 +163,8 @@ module _ (b : List ℕ) (found : Found) (frame : Frame) (current : Option Frame)
     flat = λ t is low. let o = flat_frame t is low in let g = there t is in step.flat g.0 g.1 o.1 o.0;
   }
 
-  pub goes_down : (new : List Frame) (f : Found) (next : Option Frame) → Moves frame old new f next → next_weight next + frames_weight new < next_weight current + frames_weight old
+  pub goes_down : (new : List Frame) (f : Found) (next : Option Frame) → Moves frame old new f next
+      → next_weight next + frames_weight new < next_weight current + frames_weight old
   goes_down new f next step = omega (arith, step.smaller, ap next_weight now)
 
   pub stops : (e : JsonbError) → StepCause frame e → Searched b (Err e)
@@ -150,7 +173,8 @@ module _ (b : List ℕ) (found : Found) (frame : Frame) (current : Option Frame)
   stops errors.NumberTooWide h = h
   stops errors.OutOfMemory h = λ t is low. let g = there t is in h g.0 g.1 (flat_frame t is low).1
 
-pub ends : (b : List ℕ) (found : Found) (current : Option Frame) (suspended : List Frame) → current ≡ None → SoFar b found current suspended → container_found b ≡ Some found
+pub ends : (b : List ℕ) (found : Found) (current : Option Frame) (suspended : List Frame) → current ≡ None → SoFar b found current suspended
+    → container_found b ≡ Some found
 ends b found current suspended none s =
     sym s.so_far
     ∙ ap (λ (n : Option Frame). combine (Some found) (combine (next_found n) (frames_found suspended))) none

@@ -22,10 +22,12 @@ use Rattle.jsonb.proofs.MemberLaws.{array_read, object_read, not_lone, opens}
 container_type : (b : List ℕ) → IsJsonTree (read b) → cond (says_object (form_at b)) types.Object types.Array ≡ type_of (or_null (read b))
 container_type b json = go (opened b) refl
   where
-    said : (f : Form) (c : ℕ) (p : Place) → opened b ≡ Some (f, c, p) → cond (says_object (form_at b)) types.Object types.Array ≡ cond (says_object (Some (f, c))) types.Object types.Array
+    said : (f : Form) (c : ℕ) (p : Place) → opened b ≡ Some (f, c, p)
+        → cond (says_object (form_at b)) types.Object types.Array ≡ cond (says_object (Some (f, c))) types.Object types.Array
     said f c p e = ap (λ (r : Option (Form × ℕ)). cond (says_object r) types.Object types.Array) (opened_form b f c p e)
 
-    by_form : (f : Form) (c : ℕ) (p : Place) → opened b ≡ Some (f, c, p) → cond (says_object (Some (f, c))) types.Object types.Array ≡ type_of (or_null (read b))
+    by_form : (f : Form) (c : ℕ) (p : Place) → opened b ≡ Some (f, c, p)
+        → cond (says_object (Some (f, c))) types.Object types.Array ≡ type_of (or_null (read b))
     by_form Array c p e = ap (λ (r : Option Tree). type_of (or_null r)) (sym (array_read b json c p (sym e)).1)
     by_form Object c p e = ap (λ (r : Option Tree). type_of (or_null r)) (sym (object_read b json c p (sym e)).1)
     by_form Lone c p e = absurd (not_lone b json (sym e))
@@ -57,7 +59,8 @@ module _ (k : Kind) (b : List ℕ) (stands : IsJsonTree (value_of k b)) where
   no_length h = ap (option_map (λ s. length (points s))) (no_string k b stands h)
 
   -- a string has as many code points as bytes that begin one
-  pub string_points : k ≡ kinds.String → (n : ℕ) → n ≡ count_by begins_char b → Some n ≡ option_map (λ s. length (points s)) (as_string (or_null (value_of k b)))
+  pub string_points : k ≡ kinds.String → (n : ℕ) → n ≡ count_by begins_char b
+      → Some n ≡ option_map (λ s. length (points s)) (as_string (or_null (value_of k b)))
   string_points e n counted =
       let one : n ≡ length (points b) = counted ∙ text_begins b (IsUtf8-from_is_utf8 b (string_text k b stands e)) in
       ap (λ (m : ℕ). Some m) one ∙ ap (λ (j : Kind). option_map (λ s. length (points s)) (as_string (or_null (value_of j b)))) (sym e)

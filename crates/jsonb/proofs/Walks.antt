@@ -79,7 +79,8 @@ pass_stops {count = count} {i = i} {p = p} so_far lt e =
     let one : skip (count - i) p ≡ None = rw (count_down count i lt, ← e) refl in
     sym one ∙ so_far.same
 
-pub pass_goes_on : {count i : ℕ} {p start q : Place} {x : Item} → Passes count i p start → i < count → Some (x, q) ≡ item_at p → Passes count (i + 1) q start
+pub pass_goes_on : {count i : ℕ} {p start q : Place} {x : Item} → Passes count i p start → i < count → Some (x, q) ≡ item_at p
+    → Passes count (i + 1) q start
 unfolding skip
 pass_goes_on {count = count} {i = i} {p = p} {q = q} so_far lt e =
     let one : skip (count - i) p ≡ skip (count - (i + 1)) q = rw (count_down count i lt, ← e) refl in
@@ -101,19 +102,22 @@ pub record Seeks (k : List ℕ) (count i : ℕ) (p start : Place) : Type 0 where
 pub seek_begins : (k : List ℕ) (count : ℕ) (start : Place) → Seeks k count 0 start start
 seek_begins k count start = let n : count - 0 ≡ count = omega arith in record { same = ap (λ (m : ℕ). behind_key k m start) n }
 
-pub seek_stops : {k : List ℕ} {count i : ℕ} {p start : Place} → Seeks k count i p start → i < count → None ≡ item_at p → None ≡ behind_key k count start
+pub seek_stops : {k : List ℕ} {count i : ℕ} {p start : Place} → Seeks k count i p start → i < count → None ≡ item_at p
+    → None ≡ behind_key k count start
 unfolding behind_key
 seek_stops {k = k} {count = count} {i = i} {p = p} so_far lt e =
     let one : behind_key k (count - i) p ≡ None = rw (count_down count i lt, ← e) refl in
     sym one ∙ so_far.same
 
-pub seek_finds : {k : List ℕ} {count i : ℕ} {p start q : Place} {x : Item} → Seeks k count i p start → i < count → Some (x, q) ≡ item_at p → true ≡ bytes_eq k x.piece → Some q ≡ behind_key k count start
+pub seek_finds : {k : List ℕ} {count i : ℕ} {p start q : Place} {x : Item} → Seeks k count i p start → i < count → Some (x, q) ≡ item_at p
+    → true ≡ bytes_eq k x.piece → Some q ≡ behind_key k count start
 unfolding behind_key
 seek_finds {k = k} {count = count} {i = i} {p = p} {q = q} so_far lt e same =
     let one : behind_key k (count - i) p ≡ Some q = rw (count_down count i lt, ← e, ← same) refl in
     sym one ∙ so_far.same
 
-pub seek_goes_on : {k : List ℕ} {count i : ℕ} {p start q : Place} {x : Item} → Seeks k count i p start → i < count → Some (x, q) ≡ item_at p → false ≡ bytes_eq k x.piece → Seeks k count (i + 1) q start
+pub seek_goes_on : {k : List ℕ} {count i : ℕ} {p start q : Place} {x : Item} → Seeks k count i p start → i < count → Some (x, q) ≡ item_at p
+    → false ≡ bytes_eq k x.piece → Seeks k count (i + 1) q start
 unfolding behind_key
 seek_goes_on {k = k} {count = count} {i = i} {p = p} {q = q} so_far lt e other =
     let one : behind_key k (count - i) p ≡ behind_key k (count - (i + 1)) q = rw (count_down count i lt, ← e, ← other) refl in

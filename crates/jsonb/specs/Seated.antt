@@ -56,7 +56,8 @@ member_seats s (suc n) p q = or_no_members (do
 
 -- the keys, each with where its value lies
 abbrev pub object_seats : JsonbObject → List (List ℕ × Seat)
-object_seats o = or_no_members (skip o.keys.count (place o.keys.start) >>= λ q. Some (member_seats o.keys.payload o.keys.count (place o.keys.start) q))
+object_seats o =
+    or_no_members (skip o.keys.count (place o.keys.start) >>= λ q. Some (member_seats o.keys.payload o.keys.count (place o.keys.start) q))
 
 abbrev pub values_of : List (List ℕ × Seat) → List Seat
 values_of ms = map (λ m. m.1) ms

@@ -33,7 +33,8 @@ held_item (scalar s) at x q k e h = absurd h
 held_item (array ts) at x q k e h = (k, (q, e, h))
 held_item (object ms) at x q k e h = (k, (q, e, h))
 
-pub item_takes_tree : (inside : List ℕ → Option Tree) → Takes inside → (at : ℕ) (x : Item) (t : Tree) → IsBytes x.piece → item_by inside at x ≡ Some t → IsItem t at x
+pub item_takes_tree : (inside : List ℕ → Option Tree) → Takes inside → (at : ℕ) (x : Item) (t : Tree) → IsBytes x.piece
+    → item_by inside at x ≡ Some t → IsItem t at x
 item_takes_tree inside ok at x t fits e = elim (chosen (eqb x.kind 5) (unpadded at x.piece >>= inside) (scalar_of at x >>= λ s. Some (scalar s)) (Some t) e) [
   | inl g ↦
       let a = bind_some (unpadded at x.piece) inside t g.1 in
@@ -51,12 +52,14 @@ not_five (boolean false) at x h e = omega (arith, h.0)
 not_five (number d) at x h e = omega (arith, h.0)
 not_five (string s) at x h e = omega (arith, h.0)
 
-held_again : (inside : List ℕ → Option Tree) (n : ℕ) → Again n inside → (at : ℕ) (x : Item) (t : Tree) → length x.piece < n → x.kind ≡ 5 → IsPadded (IsContainer t) at x.piece → item_by inside at x ≡ Some t
+held_again : (inside : List ℕ → Option Tree) (n : ℕ) → Again n inside → (at : ℕ) (x : Item) (t : Tree) → length x.piece < n → x.kind ≡ 5
+    → IsPadded (IsContainer t) at x.piece → item_by inside at x ≡ Some t
 held_again inside n ok at x t lt k (q, e, h) =
     let len : length q ≤ length x.piece = omega (arith, ap length e, length-append (padding at) q) in
     rw (eq-eqb x.kind 5 k, unpadded_again at x.piece q e) (ok q t (omega arith) h)
 
-item_again_tree : (inside : List ℕ → Option Tree) (n : ℕ) → Again n inside → (at : ℕ) (x : Item) (t : Tree) → length x.piece < n → IsItem t at x → item_by inside at x ≡ Some t
+item_again_tree : (inside : List ℕ → Option Tree) (n : ℕ) → Again n inside → (at : ℕ) (x : Item) (t : Tree) → length x.piece < n → IsItem t at x
+    → item_by inside at x ≡ Some t
 item_again_tree inside n ok at x (scalar s) lt h = rw (ne_eqb x.kind 5 (not_five s at x h), scalar_again at x s h) refl
 item_again_tree inside n ok at x (array ts) lt h = held_again inside n ok at x (array ts) lt h.0 h.1
 item_again_tree inside n ok at x (object ms) lt h = held_again inside n ok at x (object ms) lt h.0 h.1
@@ -74,10 +77,12 @@ pub record TreeRun (p q : Place) (ts : Elements) (n : ℕ) : Type 0 where
   pub trees : AreElements ts p.at items
   pub count : length items ≡ n
 
-pub elements_take : (inside : List ℕ → Option Tree) → Takes inside → (n : ℕ) (p : Place) (r : Elements × Place) → Fit p → elements_by inside n p ≡ Some r → TreeRun p r.1 r.0 n
+pub elements_take : (inside : List ℕ → Option Tree) → Takes inside → (n : ℕ) (p : Place) (r : Elements × Place) → Fit p
+    → elements_by inside n p ≡ Some r → TreeRun p r.1 r.0 n
 unfolding elements_by
 elements_take inside ok zero p r fit e =
-    subst (λ (y : Elements × Place). TreeRun p y.1 y.0 0) (some_is (no_elements, p) r e) (record { items = []; run = Run-nil p; fit = fit; trees = tt; count = refl })
+    subst (λ (y : Elements × Place). TreeRun p y.1 y.0 0) (some_is (no_elements, p) r e)
+    (record { items = []; run = Run-nil p; fit = fit; trees = tt; count = refl })
 elements_take inside ok (suc n) p r fit e =
     let a = bind_some (item_at p) (λ x. item_by inside p.at x.0 >>= λ t. elements_by inside n x.1 >>= λ ts. Some (element t ts.0, ts.1)) r e in
     let b = bind_some (item_by inside p.at a.0.0) (λ t. elements_by inside n a.0.1 >>= λ ts. Some (element t ts.0, ts.1)) r a.2 in
@@ -94,14 +99,19 @@ elements_take inside ok (suc n) p r fit e =
       count = ap suc more.count;
     })
 
-elements_again : (inside : List ℕ → Option Tree) (n : ℕ) → Again n inside → (ts : Elements) (p q : Place) (xs : List Item) → Run p q xs → p.at + length (pieces xs) < 2 ^ 28 → length (pieces xs) < n → AreElements ts p.at xs → elements_by inside (count ts) p ≡ Some (ts, q)
+elements_again : (inside : List ℕ → Option Tree) (n : ℕ) → Again n inside → (ts : Elements) (p q : Place) (xs : List Item) → Run p q xs
+    → p.at + length (pieces xs) < 2 ^ 28 → length (pieces xs) < n → AreElements ts p.at xs → elements_by inside (count ts) p ≡ Some (ts, q)
 unfolding elements_by
 elements_again inside n ok no_elements p q [] run fits lt are = ap (λ (k : Place). Some (no_elements, k)) (Run-none p q run)
 elements_again inside n ok no_elements p q (x ∷ xs) run fits lt are = absurd are
 elements_again inside n ok (element t ts) p q [] run fits lt are = absurd are
 elements_again inside n ok (element t ts) p q (x ∷ xs) run fits lt are =
     let len = length-append x.piece (pieces xs) in
-    rw (item_again p q x xs run (omega (arith, len)), item_again_tree inside n ok p.at x t (omega (arith, len)) are.0, elements_again inside n ok ts (after p q x xs) q xs (Run-tail p q x xs run) (omega (arith, len)) (omega (arith, len)) are.1) refl
+    rw (
+      item_again p q x xs run (omega (arith, len)),
+      item_again_tree inside n ok p.at x t (omega (arith, len)) are.0,
+      elements_again inside n ok ts (after p q x xs) q xs (Run-tail p q x xs run) (omega (arith, len)) (omega (arith, len)) are.1,
+    ) refl
 
 -- ---- objects
 
@@ -110,7 +120,8 @@ keys_are [] ts e = refl
 keys_are (k ∷ ks) no_elements e = absurd cc
 keys_are (k ∷ ks) (element t ts) e = ap (λ (m : List (List ℕ)). k ∷ m) (keys_are ks ts (omega arith))
 
-values_are : (ks : List (List ℕ)) (ts : Elements) (at : ℕ) (xs : List Item) → length ks ≡ count ts → AreElements ts at xs → AreValues (members ks ts) at xs
+values_are : (ks : List (List ℕ)) (ts : Elements) (at : ℕ) (xs : List Item) → length ks ≡ count ts → AreElements ts at xs
+    → AreValues (members ks ts) at xs
 values_are [] no_elements at xs e h = h
 values_are [] (element t ts) at xs e h = absurd cc
 values_are (k ∷ ks) no_elements at xs e h = absurd cc
@@ -146,12 +157,14 @@ count_items (element t ts) at (x ∷ xs) h = ap suc (count_items ts (at + length
 
 -- ---- containers
 
-held_takes : (inside : List ℕ → Option Tree) → Takes inside → (b : List ℕ) (f : Form) (c : ℕ) (p : Place) (t : Tree) → Opens b f c p → Fit p → held_by inside f c p ≡ Some t → IsContainer t b
+held_takes : (inside : List ℕ → Option Tree) → Takes inside → (b : List ℕ) (f : Form) (c : ℕ) (p : Place) (t : Tree) → Opens b f c p → Fit p
+    → held_by inside f c p ≡ Some t → IsContainer t b
 held_takes inside ok b Array c p t o fit e =
     let a = bind_some (elements_by inside c p) (λ r. ended r.1 (array r.0)) t e in
     let d = ended_is a.0.1 (array a.0.0) t a.2 in
     let r = elements_take inside ok c p a.0 fit a.1 in
-    subst (λ (y : Tree). IsContainer y b) d.1 (r.items, laid_from b Array c p a.0.1 r.items o r.run r.count r.count d.0, subst (λ (k : ℕ). AreElements a.0.0 k r.items) o.at r.trees)
+    subst (λ (y : Tree). IsContainer y b) d.1
+    (r.items, laid_from b Array c p a.0.1 r.items o r.run r.count r.count d.0, subst (λ (k : ℕ). AreElements a.0.0 k r.items) o.at r.trees)
 held_takes inside ok b Object c p t o fit e =
     let k = bind_some (keys_at c None p) (λ k. elements_by inside c k.1 >>= λ r. ended r.1 (object (members k.0 r.0))) t e in
     let a = bind_some (elements_by inside c k.0.1) (λ r. ended r.1 (object (members k.0.0 r.0))) t k.2 in
@@ -163,8 +176,14 @@ held_takes inside ok b Object c p t o fit e =
     let n : length all ≡ 2 * c = omega (arith, length-append (map key_item k.0.0) r.items, length-map k.0.0 key_item, ks.count, r.count) in
     let at : k.0.1.at ≡ length (pieces (map key_item k.0.0)) = omega (arith, ks.run.at, o.at) in
     let same : length k.0.0 ≡ count a.0.0 = omega (arith, ks.count, r.count, count_items a.0.0 k.0.1.at r.items r.trees) in
-    let object_is : IsObject k.0.0 (AreValues (members k.0.0 a.0.0)) b = (r.items, laid_from b Object c p a.0.1 all o run n n d.0, ks.rise, values_are k.0.0 a.0.0 _ r.items same (subst (λ (i : ℕ). AreElements a.0.0 i r.items) at r.trees)) in
-    subst (λ (y : Tree). IsContainer y b) d.1 (subst (λ (m : List (List ℕ)). IsObject m (AreValues (members k.0.0 a.0.0)) b) (sym (keys_are k.0.0 a.0.0 same)) object_is)
+    let object_is : IsObject k.0.0 (AreValues (members k.0.0 a.0.0)) b = (
+      r.items,
+      laid_from b Object c p a.0.1 all o run n n d.0,
+      ks.rise,
+      values_are k.0.0 a.0.0 _ r.items same (subst (λ (i : ℕ). AreElements a.0.0 i r.items) at r.trees),
+    ) in
+    subst (λ (y : Tree). IsContainer y b) d.1
+    (subst (λ (m : List (List ℕ)). IsObject m (AreValues (members k.0.0 a.0.0)) b) (sym (keys_are k.0.0 a.0.0 same)) object_is)
 held_takes inside ok b Lone c p t o fit e = absurd cc
 
 pub container_takes : (fuel : ℕ) → Takes (container_of fuel)
@@ -188,7 +207,12 @@ container_again (suc fuel) b (array ts) lt (xs, l, are) =
     let o = open_again b Array l.count (first xs) (opens_from b Array xs l) in
     let less = inside_less b Array xs l in
     let n : l.count ≡ count ts = sym l.counted ∙ sym (count_items ts 0 xs are) in
-    rw (o, n, elements_again (container_of fuel) fuel (container_again fuel) ts (first xs) (last xs) xs (run_over xs l.kinds) (omega (arith, l.pieces_fit)) (omega arith) are) refl
+    rw (
+      o,
+      n,
+      elements_again (container_of fuel) fuel (container_again fuel) ts (first xs) (last xs) xs (run_over xs l.kinds) (omega (arith, l.pieces_fit))
+          (omega arith) are,
+    ) refl
 container_again (suc fuel) b (object ms) lt (xs, l, rise, are) =
     let ks = keys ms in
     let ts = values_of ms in
@@ -198,10 +222,27 @@ container_again (suc fuel) b (object ms) lt (xs, l, rise, are) =
     let split = Run-split (map key_item ks) xs (first all) (last all) (run_over all l.kinds) in
     let m = split.0 in
     let at : m.at ≡ length (pieces (map key_item ks)) = omega (arith, split.1.at) in
-    let total : length (pieces all) ≡ length (pieces (map key_item ks)) + length (pieces xs) = ap length (flat_map-append (λ (x : Item). x.piece) (map key_item ks) xs) ∙ length-append (pieces (map key_item ks)) (pieces xs) in
+    let total : length (pieces all) ≡ length (pieces (map key_item ks)) + length (pieces xs) =
+    ap length (flat_map-append (λ (x : Item). x.piece) (map key_item ks) xs) ∙ length-append (pieces (map key_item ks)) (pieces xs) in
     let trees = are_values ms (length (pieces (map key_item ks))) xs are in
-    let n : l.count ≡ length ks = omega (arith, l.counted, length-append (map key_item ks) xs, length-map ks key_item, keys_count ms, count_items ts (length (pieces (map key_item ks))) xs trees) in
-    rw (o, n, keys_again ks None (first all) m split.1 (omega (arith, total, l.pieces_fit)) rise, keys_count ms, elements_again (container_of fuel) fuel (container_again fuel) ts m (last all) xs split.2 (omega (arith, total, l.pieces_fit, at)) (omega (arith, total)) (subst (λ (i : ℕ). AreElements ts i xs) (sym at) trees), members_back ms) refl
+    let n : l.count ≡ length ks =
+    omega (
+      arith,
+      l.counted,
+      length-append (map key_item ks) xs,
+      length-map ks key_item,
+      keys_count ms,
+      count_items ts (length (pieces (map key_item ks))) xs trees,
+    ) in
+    rw (
+      o,
+      n,
+      keys_again ks None (first all) m split.1 (omega (arith, total, l.pieces_fit)) rise,
+      keys_count ms,
+      elements_again (container_of fuel) fuel (container_again fuel) ts m (last all) xs split.2 (omega (arith, total, l.pieces_fit, at))
+          (omega (arith, total)) (subst (λ (i : ℕ). AreElements ts i xs) (sym at) trees),
+      members_back ms,
+    ) refl
 
 -- ---- a whole slice
 

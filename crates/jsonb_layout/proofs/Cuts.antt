@@ -23,19 +23,25 @@ four w = to_le_bytes w32 w
 
 -- ---- entry words tell how long the pieces are
 
-one_length : (i at : ℕ) (x y : Item) → x.kind < 8 → y.kind < 8 → at + length x.piece < 2 ^ 28 → at + length y.piece < 2 ^ 28 → four (entry i (at + length x.piece) x) ≡ four (entry i (at + length y.piece) y) → length x.piece ≡ length y.piece
+one_length : (i at : ℕ) (x y : Item) → x.kind < 8 → y.kind < 8 → at + length x.piece < 2 ^ 28 → at + length y.piece < 2 ^ 28
+    → four (entry i (at + length x.piece) x) ≡ four (entry i (at + length y.piece) y) → length x.piece ≡ length y.piece
 one_length i at x y kx ky lx ly e =
     let v = entry i (at + length x.piece) x in
     let w = entry i (at + length y.piece) y in
     let sx = entry_says i at x kx lx in
     let sy = entry_says i at y ky ly in
     let same : v ≡ w = sym (from_le_bytes-to_le_bytes_4 v sx.fits) ∙ ap (from_le_bytes w32) e ∙ from_le_bytes-to_le_bytes_4 w sy.fits in
-    some_is (length x.piece) (length y.piece) (sym (says_length i at (length x.piece) v sx.len) ∙ ap (length_of i at) same ∙ says_length i at (length y.piece) w sy.len)
+    some_is (length x.piece) (length y.piece)
+    (sym (says_length i at (length x.piece) v sx.len) ∙ ap (length_of i at) same ∙ says_length i at (length y.piece) w sy.len)
 
-pub same_length : (i at : ℕ) (xs ys : List Item) → AllByRecursion (λ x. x.kind < 8) xs → AllByRecursion (λ x. x.kind < 8) ys → at + length (pieces xs) < 2 ^ 28 → at + length (pieces ys) < 2 ^ 28 → words (entries i at xs) ≡ words (entries i at ys) → length (pieces xs) ≡ length (pieces ys)
+pub same_length : (i at : ℕ) (xs ys : List Item) → AllByRecursion (λ x. x.kind < 8) xs → AllByRecursion (λ x. x.kind < 8) ys
+    → at + length (pieces xs) < 2 ^ 28 → at + length (pieces ys) < 2 ^ 28 → words (entries i at xs) ≡ words (entries i at ys)
+    → length (pieces xs) ≡ length (pieces ys)
 same_length i at [] [] kx ky lx ly e = refl
-same_length i at [] (y ∷ ys) kx ky lx ly e = absurd (omega (arith, ap length e, length-append (four (entry i (at + length y.piece) y)) (words (entries (i + 1) (at + length y.piece) ys))))
-same_length i at (x ∷ xs) [] kx ky lx ly e = absurd (omega (arith, ap length e, length-append (four (entry i (at + length x.piece) x)) (words (entries (i + 1) (at + length x.piece) xs))))
+same_length i at [] (y ∷ ys) kx ky lx ly e =
+    absurd (omega (arith, ap length e, length-append (four (entry i (at + length y.piece) y)) (words (entries (i + 1) (at + length y.piece) ys))))
+same_length i at (x ∷ xs) [] kx ky lx ly e =
+    absurd (omega (arith, ap length e, length-append (four (entry i (at + length x.piece) x)) (words (entries (i + 1) (at + length x.piece) xs))))
 same_length i at (x ∷ xs) (y ∷ ys) kx ky lx ly e =
     let px = length-append x.piece (pieces xs) in
     let py = length-append y.piece (pieces ys) in
@@ -46,7 +52,8 @@ same_length i at (x ∷ xs) (y ∷ ys) kx ky lx ly e =
     let head : vx ≡ vy = sym (take_at vx rx 4 refl) ∙ ap (take 4) e ∙ take_at vy ry 4 refl in
     let rest : rx ≡ ry = sym (drop_at vx rx 4 refl) ∙ ap (drop 4) e ∙ drop_at vy ry 4 refl in
     let n : length x.piece ≡ length y.piece = one_length i at x y kx.0 ky.0 (omega (arith, px)) (omega (arith, py)) head in
-    let rest2 : words (entries (i + 1) (at + length x.piece) xs) ≡ words (entries (i + 1) (at + length x.piece) ys) = rest ∙ ap (λ (k : ℕ). words (entries (i + 1) (at + k) ys)) (sym n) in
+    let rest2 : words (entries (i + 1) (at + length x.piece) xs) ≡ words (entries (i + 1) (at + length x.piece) ys) =
+    rest ∙ ap (λ (k : ℕ). words (entries (i + 1) (at + k) ys)) (sym n) in
     let more = same_length (i + 1) (at + length x.piece) xs ys kx.1 ky.1 (omega (arith, px)) (omega (arith, py, n)) rest2 in
     omega (arith, px, py, n, more)
 
@@ -98,5 +105,6 @@ no_more b c t u h k =
     let ox = open_again b x.0 x.2.count (first x.1) (opens_from b x.0 x.1 x.2) in
     let oy = open_again (b ++ c) y.0 y.2.count (first y.1) (opens_from (b ++ c) y.0 y.1 y.2) in
     let same : (first x.1).words ≡ (first y.1).words = opened_words b c (x.0, x.2.count, first x.1) (y.0, y.2.count, first y.1) ox oy in
-    let n : length (pieces x.1) ≡ length (pieces y.1) = same_length 0 0 x.1 y.1 x.2.kinds y.2.kinds (omega (arith, x.2.pieces_fit)) (omega (arith, y.2.pieces_fit)) same in
+    let n : length (pieces x.1) ≡ length (pieces y.1) =
+    same_length 0 0 x.1 y.1 x.2.kinds y.2.kinds (omega (arith, x.2.pieces_fit)) (omega (arith, y.2.pieces_fit)) same in
     omega (arith, laid_size b x.0 x.1 x.2, laid_size (b ++ c) y.0 y.1 y.2, n, ap length same, length-append b c)

@@ -17,7 +17,8 @@ pub pieces-append : (xs ys : List Item) → length (pieces (xs ++ ys)) ≡ lengt
 pieces-append xs ys = ap length (flat_map-append (λ (x : Item). x.piece) xs ys) ∙ length-append (pieces xs) (pieces ys)
 
 -- The piece of an earlier item ends before the piece of a later one begins.
-ends_before : (xs us ys vs : List Item) (x y : Item) → xs ++ (x ∷ us) ≡ ys ++ (y ∷ vs) → length xs < length ys → length (pieces xs) + length x.piece ≤ length (pieces ys)
+ends_before : (xs us ys vs : List Item) (x y : Item) → xs ++ (x ∷ us) ≡ ys ++ (y ∷ vs) → length xs < length ys
+    → length (pieces xs) + length x.piece ≤ length (pieces ys)
 ends_before xs us [] vs x y e lt = absurd (omega arith)
 ends_before [] us (z ∷ ys) vs x y e lt =
     let same : x ≡ z = cc in
@@ -69,12 +70,14 @@ extent_long (b ∷ bs) long = refl
 
 -- of a value with these own bytes: in the entry word, or where its own bytes are
 abbrev Spot : List ℕ → ℕ → ℕ → Type 0
-Spot own word begin = ((where_it_is own word begin ≡ word) × (extent_of own ≡ 4)) ⊎ ((where_it_is own word begin ≡ begin) × (extent_of own ≡ length own))
+Spot own word begin =
+    ((where_it_is own word begin ≡ word) × (extent_of own ≡ 4)) ⊎ ((where_it_is own word begin ≡ begin) × (extent_of own ≡ length own))
 
 spot : (own : List ℕ) (word begin : ℕ) → Spot own word begin
 unfolding extent_of
 spot [] word begin = inl (refl, refl)
-spot (b ∷ bs) word begin = inr (ap (λ (k : Bool). if k then word else begin) (ne_eqb (length (b ∷ bs)) 0 (λ (e : length (b ∷ bs) ≡ 0). omega arith)), refl)
+spot (b ∷ bs) word begin =
+    inr (ap (λ (k : Bool). if k then word else begin) (ne_eqb (length (b ∷ bs)) 0 (λ (e : length (b ∷ bs) ≡ 0). omega arith)), refl)
 
 shorter : (b : Bool) (n : ℕ) (piece : List ℕ) → length (if b then drop n piece else piece) ≤ length piece
 shorter true n piece = omega (arith, length-drop n piece)
@@ -87,7 +90,8 @@ Lies start n w at size c =
     ((c.at ≡ start + 4 + 4 * w) × (extent c ≡ 4))
     ⊎ ((start + 4 + 4 * n + at ≤ c.at) × (c.at + extent c ≤ start + 4 + 4 * n + at + size))
 
-lies : (start n : ℕ) (before : List Item) (x : Item) → Lies start n (length before) (length (pieces before)) (length x.piece) (item_seat start n before x)
+lies : (start n : ℕ) (before : List Item) (x : Item)
+    → Lies start n (length before) (length (pieces before)) (length x.piece) (item_seat start n before x)
 unfolding extent
 lies start n before x =
     let at = length (pieces before) in
@@ -107,13 +111,15 @@ pub record Child (s : Seat) (form : Form) (front back : List Item) (x : Item) (c
 
 pub child : (s : Seat) (i : ℕ) (c : Seat) (h : Holds s i c) → Child s h.form (h.keys ++ h.before) h.after h.item c
 child s i c h =
-    let all : h.keys ++ (h.before ++ (h.item ∷ h.after)) ≡ (h.keys ++ h.before) ++ (h.item ∷ h.after) = sym (append_assoc h.keys h.before (h.item ∷ h.after)) in
+    let all : h.keys ++ (h.before ++ (h.item ∷ h.after)) ≡ (h.keys ++ h.before) ++ (h.item ∷ h.after) =
+    sym (append_assoc h.keys h.before (h.item ∷ h.after)) in
     record {
       laid = subst (λ (l : List Item). Laid s.bytes h.form l) all h.laid;
       seat = h.seat ∙ ap (λ (l : List Item). item_seat s.at (length l) (h.keys ++ h.before) h.item) all;
     }
 
-child_lies : (s : Seat) (f : Form) (front back : List Item) (x : Item) (c : Seat) → Child s f front back x c → Lies s.at (length (front ++ (x ∷ back))) (length front) (length (pieces front)) (length x.piece) c
+child_lies : (s : Seat) (f : Form) (front back : List Item) (x : Item) (c : Seat) → Child s f front back x c
+    → Lies s.at (length (front ++ (x ∷ back))) (length front) (length (pieces front)) (length x.piece) c
 child_lies s f front back x c h =
     let n = length (front ++ (x ∷ back)) in
     subst (λ (d : Seat). Lies s.at n (length front) (length (pieces front)) (length x.piece) d) (sym h.seat) (lies s.at n front x)
@@ -124,12 +130,14 @@ laid_length b f xs l =
     omega (arith, ap length l.bytes, length-append (words ws) (pieces xs), length-words ws, length-entries 0 0 xs)
 
 -- A value in a value lies behind its header and before its end.
-inside : (s : Seat) (f : Form) (front back : List Item) (x : Item) (c : Seat) → Child s f front back x c → (s.at + 4 ≤ c.at) × (c.at + extent c ≤ s.at + extent s)
+inside : (s : Seat) (f : Form) (front back : List Item) (x : Item) (c : Seat) → Child s f front back x c
+    → (s.at + 4 ≤ c.at) × (c.at + extent c ≤ s.at + extent s)
 unfolding extent
 inside s f front back x c h =
     let long = laid_length s.bytes f (front ++ (x ∷ back)) h.laid in
     let n : length (front ++ (x ∷ back)) ≡ length front + suc (length back) = length-append front (x ∷ back) in
-    let size : length (pieces (front ++ (x ∷ back))) ≡ length (pieces front) + (length x.piece + length (pieces back)) = pieces-append front (x ∷ back) ∙ ap (λ (k : ℕ). length (pieces front) + k) (length-append x.piece (pieces back)) in
+    let size : length (pieces (front ++ (x ∷ back))) ≡ length (pieces front) + (length x.piece + length (pieces back)) =
+    pieces-append front (x ∷ back) ∙ ap (λ (k : ℕ). length (pieces front) + k) (length-append x.piece (pieces back)) in
     let whole : extent_of s.bytes ≡ length s.bytes = extent_long s.bytes (omega (arith, long)) in
     elim (child_lies s f front back x c h) [
       | inl k ↦ (omega (arith, k.0), omega (arith, k.0, k.1, long, n, whole))
@@ -140,7 +148,8 @@ abbrev pub Apart : Seat → Seat → Type 0
 Apart c d = (c.at + extent c ≤ d.at) ⊎ (d.at + extent d ≤ c.at)
 
 -- Two values in a value share no byte.
-apart : (s : Seat) (f g : Form) (xs us ys vs : List Item) (x y : Item) (c d : Seat) → Child s f xs us x c → Child s g ys vs y d → length xs < length ys → Apart c d
+apart : (s : Seat) (f g : Form) (xs us ys vs : List Item) (x y : Item) (c d : Seat) → Child s f xs us x c → Child s g ys vs y d
+    → length xs < length ys → Apart c d
 apart s f g xs us ys vs x y c d h k lt =
     let same : xs ++ (x ∷ us) ≡ ys ++ (y ∷ vs) = (one_layout s.bytes f g (xs ++ (x ∷ us)) (ys ++ (y ∷ vs)) h.laid k.laid).1 in
     let n : length (xs ++ (x ∷ us)) ≡ length (ys ++ (y ∷ vs)) = ap length same in
@@ -158,9 +167,11 @@ apart s f g xs us ys vs x y c d h k lt =
     ]
 
 seat_same : (start n m : ℕ) (xs ys : List Item) (x y : Item) → n ≡ m → xs ≡ ys → x ≡ y → item_seat start n xs x ≡ item_seat start m ys y
-seat_same start n m xs ys x y e f g = ap (λ (k : ℕ). item_seat start k xs x) e ∙ ap (λ (l : List Item). item_seat start m l x) f ∙ ap (λ (z : Item). item_seat start m ys z) g
+seat_same start n m xs ys x y e f g =
+    ap (λ (k : ℕ). item_seat start k xs x) e ∙ ap (λ (l : List Item). item_seat start m l x) f ∙ ap (λ (z : Item). item_seat start m ys z) g
 
-one_child : (s : Seat) (f g : Form) (xs us ys vs : List Item) (x y : Item) (c d : Seat) → Child s f xs us x c → Child s g ys vs y d → length xs ≡ length ys → c ≡ d
+one_child : (s : Seat) (f g : Form) (xs us ys vs : List Item) (x y : Item) (c d : Seat) → Child s f xs us x c → Child s g ys vs y d
+    → length xs ≡ length ys → c ≡ d
 one_child s f g xs us ys vs x y c d h k n =
     let same : xs ++ (x ∷ us) ≡ ys ++ (y ∷ vs) = (one_layout s.bytes f g (xs ++ (x ∷ us)) (ys ++ (y ∷ vs)) h.laid k.laid).1 in
     let one = one_item xs us ys vs x y same n in

@@ -13,7 +13,8 @@ strip_is : (fuel n : ℕ) → (b : ℕ) × (n ≡ stripped fuel n * 10 ^ b)
 strip_is zero n = (0, omega arith)
 strip_is (suc fuel) n = go (eqb (n % 10) 0) refl (strip_is fuel (n / 10))
   where
-    go : (t : Bool) → eqb (n % 10) 0 ≡ t → (b : ℕ) × (n / 10 ≡ stripped fuel (n / 10) * 10 ^ b) → (b : ℕ) × (n ≡ (elim t [ true ↦ stripped fuel (n / 10) | false ↦ n ]) * 10 ^ b)
+    go : (t : Bool) → eqb (n % 10) 0 ≡ t → (b : ℕ) × (n / 10 ≡ stripped fuel (n / 10) * 10 ^ b)
+        → (b : ℕ) × (n ≡ (elim t [ true ↦ stripped fuel (n / 10) | false ↦ n ]) * 10 ^ b)
     go true e h = let z = eqb-true (n % 10) 0 e in (suc h.0, let k = ten_more (stripped fuel (n / 10)) h.0 in omega (arith, h.1))
     go false e h = (0, omega arith)
 
@@ -21,7 +22,8 @@ strip_ends : (fuel n : ℕ) → n ≤ fuel → 0 < n → stripped fuel n % 10 �
 strip_ends zero n le pos e = omega arith
 strip_ends (suc fuel) n le pos e = go (λ h. strip_ends fuel (n / 10) (omega arith) (omega arith)) (eqb (n % 10) 0) refl e
   where
-    go : (n % 10 ≡ 0 → stripped fuel (n / 10) % 10 ≡ 0 → ⊥) → (t : Bool) → eqb (n % 10) 0 ≡ t → (elim t [ true ↦ stripped fuel (n / 10) | false ↦ n ]) % 10 ≡ 0 → ⊥
+    go : (n % 10 ≡ 0 → stripped fuel (n / 10) % 10 ≡ 0 → ⊥) → (t : Bool) → eqb (n % 10) 0 ≡ t
+        → (elim t [ true ↦ stripped fuel (n / 10) | false ↦ n ]) % 10 ≡ 0 → ⊥
     go more true h k = more (eqb-true (n % 10) 0 h) k
     go more false h k = eqb-false (n % 10) 0 h k
 

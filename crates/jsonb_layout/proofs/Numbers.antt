@@ -28,8 +28,10 @@ varlena_takes p body fits e = elim (chosen (eqb (get_or p 0 0 % 2) 1) _ _ (Some 
       let odd = eqb-true (get_or p 0 0 % 2) 1 g.0 in
       let h = guard (eqb (get_or p 0 0) (2 * length p + 1)) (Some (drop 1 p)) body g.1 in
       let size = eqb-true (get_or p 0 0) (2 * length p + 1) h.0 in
-      let same : drop 1 p ≡ body = some_is (drop 1 p) body h.1 in
-      (inr (omega (arith, fits 0), odd_first p odd ∙ ap (λ (n : ℕ). n ∷ drop 1 p) size ∙ ap (λ (r : List ℕ). (2 * length p + 1) ∷ r) same), subst IsBytes same (IsBytes-drop 1 p fits))
+      let same : drop 1 p ≡ body = some_is (drop 1 p) body h.1 in (
+        inr (omega (arith, fits 0), odd_first p odd ∙ ap (λ (n : ℕ). n ∷ drop 1 p) size ∙ ap (λ (r : List ℕ). (2 * length p + 1) ∷ r) same),
+        subst IsBytes same (IsBytes-drop 1 p fits),
+      )
   | inr g ↦
       let h = guard (leb 4 (length p) && eqb (from_le_bytes w32 (take 4 p)) (4 * length p)) (Some (drop 4 p)) body g.1 in
       let t = and_parts (leb 4 (length p)) (eqb (from_le_bytes w32 (take 4 p)) (4 * length p)) h.0 in
@@ -37,9 +39,15 @@ varlena_takes p body fits e = elim (chosen (eqb (get_or p 0 0 % 2) 1) _ _ (Some 
       let size = eqb-true (from_le_bytes w32 (take 4 p)) (4 * length p) t.1 in
       let fits4 = IsBytes-take 4 p fits in
       let small : from_le_bytes w32 (take 4 p) < 2 ^ 32 = omega (arith, fits4 0, fits4 1, fits4 2, fits4 3) in
-      let front : take 4 p ≡ to_le_bytes w32 (4 * length p) = sym (le_bytes_4 (take 4 p) (from_le_bytes w32 (take 4 p)) (length-take-le 4 p long) fits4 refl) ∙ ap (to_le_bytes w32) size in
-      let same : drop 4 p ≡ body = some_is (drop 4 p) body h.1 in
-      (inl (omega arith, sym (take-append-drop 4 p) ∙ ap (λ (f : List ℕ). f ++ drop 4 p) front ∙ ap (λ (r : List ℕ). to_le_bytes w32 (4 * length p) ++ r) same), subst IsBytes same (IsBytes-drop 4 p fits))
+      let front : take 4 p ≡ to_le_bytes w32 (4 * length p) =
+      sym (le_bytes_4 (take 4 p) (from_le_bytes w32 (take 4 p)) (length-take-le 4 p long) fits4 refl) ∙ ap (to_le_bytes w32) size in
+      let same : drop 4 p ≡ body = some_is (drop 4 p) body h.1 in (
+        inl (
+          omega arith,
+          sym (take-append-drop 4 p) ∙ ap (λ (f : List ℕ). f ++ drop 4 p) front ∙ ap (λ (r : List ℕ). to_le_bytes w32 (4 * length p) ++ r) same,
+        ),
+        subst IsBytes same (IsBytes-drop 4 p fits),
+      )
 ]
 
 first_even : (n : ℕ) (r : List ℕ) → get_or (to_le_bytes w32 (4 * n) ++ r) 0 0 % 2 ≡ 0
@@ -51,9 +59,12 @@ varlena_again p body (inl (small, e)) =
     let n = 4 * length p in
     let even : get_or p 0 0 % 2 ≡ 0 = ap (λ (x : List ℕ). get_or x 0 0 % 2) e ∙ first_even (length p) body in
     let long : 4 ≤ length p = omega (arith, ap length e, length-append (to_le_bytes w32 n) body) in
-    let word : from_le_bytes w32 (take 4 p) ≡ n = ap (from_le_bytes w32) (ap (take 4) e ∙ take_at (to_le_bytes w32 n) body 4 refl) ∙ from_le_bytes-to_le_bytes_4 n (omega arith) in
+    let word : from_le_bytes w32 (take 4 p) ≡ n =
+    ap (from_le_bytes w32) (ap (take 4) e ∙ take_at (to_le_bytes w32 n) body 4 refl) ∙ from_le_bytes-to_le_bytes_4 n (omega arith) in
     let rest : drop 4 p ≡ body = ap (drop 4) e ∙ drop_at (to_le_bytes w32 n) body 4 refl in
-    ap (λ (k : ℕ). cond (eqb k 1) (only_if (eqb (get_or p 0 0) (2 * length p + 1)) (Some (drop 1 p))) (only_if (leb 4 (length p) && eqb (from_le_bytes w32 (take 4 p)) n) (Some (drop 4 p)))) even
+    ap
+    (λ (k : ℕ). cond (eqb k 1) (only_if (eqb (get_or p 0 0) (2 * length p + 1)) (Some (drop 1 p))) (only_if (leb 4 (length p) && eqb (from_le_bytes w32 (take 4 p)) n) (Some (drop 4 p))))
+    even
     ∙ ap (λ (k : Bool). only_if (k && eqb (from_le_bytes w32 (take 4 p)) n) (Some (drop 4 p))) (le-leb 4 (length p) long)
     ∙ ap (λ (k : Bool). only_if k (Some (drop 4 p))) (eq-eqb (from_le_bytes w32 (take 4 p)) n word)
     ∙ ap (λ (r : List ℕ). Some r) rest
@@ -61,13 +72,16 @@ varlena_again p body (inr (small, e)) =
     let first : get_or p 0 0 ≡ 2 * length p + 1 = ap (λ (x : List ℕ). get_or x 0 0) e in
     let odd : get_or p 0 0 % 2 ≡ 1 = omega (arith, first) in
     let rest : drop 1 p ≡ body = ap (drop 1) e in
-    ap (λ (k : ℕ). cond (eqb k 1) (only_if (eqb (get_or p 0 0) (2 * length p + 1)) (Some (drop 1 p))) (only_if (leb 4 (length p) && eqb (from_le_bytes w32 (take 4 p)) (4 * length p)) (Some (drop 4 p)))) odd
+    ap
+    (λ (k : ℕ). cond (eqb k 1) (only_if (eqb (get_or p 0 0) (2 * length p + 1)) (Some (drop 1 p))) (only_if (leb 4 (length p) && eqb (from_le_bytes w32 (take 4 p)) (4 * length p)) (Some (drop 4 p))))
+    odd
     ∙ ap (λ (k : Bool). only_if k (Some (drop 1 p))) (eq-eqb (get_or p 0 0) (2 * length p + 1) first)
     ∙ ap (λ (r : List ℕ). Some r) rest
 
 -- ---- the numeric header
 
-two_bytes : (b : List ℕ) → IsBytes b → 2 ≤ length b → (from_le_bytes w16 (take 2 b) < 2 ^ 16) × (take 2 b ≡ to_le_bytes w16 (from_le_bytes w16 (take 2 b)))
+two_bytes : (b : List ℕ) → IsBytes b → 2 ≤ length b
+    → (from_le_bytes w16 (take 2 b) < 2 ^ 16) × (take 2 b ≡ to_le_bytes w16 (from_le_bytes w16 (take 2 b)))
 two_bytes b fits long =
     let f = IsBytes-take 2 b fits in
     (omega (arith, f 0, f 1), sym (le_bytes_2 (take 2 b) (from_le_bytes w16 (take 2 b)) (length-take-le 2 b long) f refl))
@@ -110,8 +124,15 @@ header_takes b x fits e =
           let long = leb-true 4 (length b) d.0 in
           let more = two_bytes (drop 2 b) (IsBytes-drop 2 b fits) (omega (arith, length-drop 2 b)) in
           let head = to_le_bytes w16 (2 ^ 14 * bit (leb (2 ^ 14) w) + w % 2 ^ 14) ++ to_le_bytes w16 v in
-          let parts : b ≡ head ++ drop 4 b = sym (take-append-drop 2 b) ∙ ap (λ (f : List ℕ). f ++ drop 2 b) (two.1 ∙ ap (to_le_bytes w16) (long_word w lt)) ∙ ap (λ (r : List ℕ). to_le_bytes w16 (2 ^ 14 * bit (leb (2 ^ 14) w) + w % 2 ^ 14) ++ r) (sym (take-append-drop 2 (drop 2 b)) ∙ ap (λ (f : List ℕ). f ++ drop 2 (drop 2 b)) more.1 ∙ ap (λ (r : List ℕ). to_le_bytes w16 v ++ r) (drop-drop 2 2 b)) in
-          subst (λ (y : Header × List ℕ). Heads b y.0 y.1) (some_is (long_of w v, drop 4 b) x d.1) (record { head = head; parts = parts; form = inr (v, more.0, omega arith, refl, refl); fits = IsBytes-drop 4 b fits })
+          let parts : b ≡ head ++ drop 4 b =
+          sym (take-append-drop 2 b)
+          ∙ ap (λ (f : List ℕ). f ++ drop 2 b) (two.1 ∙ ap (to_le_bytes w16) (long_word w lt))
+          ∙ ap (λ (r : List ℕ). to_le_bytes w16 (2 ^ 14 * bit (leb (2 ^ 14) w) + w % 2 ^ 14) ++ r)
+          (sym (take-append-drop 2 (drop 2 b))
+          ∙ ap (λ (f : List ℕ). f ++ drop 2 (drop 2 b)) more.1
+          ∙ ap (λ (r : List ℕ). to_le_bytes w16 v ++ r) (drop-drop 2 2 b)) in
+          subst (λ (y : Header × List ℕ). Heads b y.0 y.1) (some_is (long_of w v, drop 4 b) x d.1)
+          (record { head = head; parts = parts; form = inr (v, more.0, omega arith, refl, refl); fits = IsBytes-drop 4 b fits })
       | inr c ↦
           let ge = ltb-false w (2 ^ 15) c.0 in
           let d = guard (ltb w (2 ^ 15 + 2 ^ 14)) (Some (short_of w, drop 2 b)) x c.1 in
@@ -126,7 +147,8 @@ header_takes b x fits e =
     ]
 
 header_same : (m m' : Bool) (f f' l l' : ℕ) (r r' : List ℕ) → m ≡ m' → f ≡ f' → l ≡ l' → r ≡ r'
-    → ◌≡◌ {A = Option (Header × List ℕ)} (Some (record { minus = m; dscale = f; lift = l }, r)) (Some (record { minus = m'; dscale = f'; lift = l' }, r'))
+    → ◌≡◌ {A = Option (Header × List ℕ)} (Some (record { minus = m; dscale = f; lift = l }, r))
+    (Some (record { minus = m'; dscale = f'; lift = l' }, r'))
 header_same m m' f f' l l' r r' e g h k = rw (e, g, h, k) refl
 
 minus_short : (m : Bool) (f s : ℕ) → f < 64 → s < 128 → eqb ((2 ^ 15 + 2 ^ 13 * bit m + 2 ^ 7 * f + s) / 2 ^ 13 % 2) 1 ≡ m
@@ -144,28 +166,38 @@ header_again head h r (inl (s, k, f, l, e)) =
     let b = head ++ r in
     let m = bit_of h.minus in
     let parts : b ≡ to_le_bytes w16 w ++ r = ap (λ (x : List ℕ). x ++ r) e in
-    let word : from_le_bytes w16 (take 2 b) ≡ w = ap (from_le_bytes w16) (ap (take 2) parts ∙ take_at (to_le_bytes w16 w) r 2 refl) ∙ from_le_bytes-to_le_bytes_2 w (omega arith) in
+    let word : from_le_bytes w16 (take 2 b) ≡ w =
+    ap (from_le_bytes w16) (ap (take 2) parts ∙ take_at (to_le_bytes w16 w) r 2 refl) ∙ from_le_bytes-to_le_bytes_2 w (omega arith) in
     let long : 2 ≤ length b = omega (arith, ap length parts, length-append (to_le_bytes w16 w) r) in
     ap (λ (k : Bool). only_if k (header_with (from_le_bytes w16 (take 2 b)) b)) (le-leb 2 (length b) long)
     ∙ ap (λ (v : ℕ). header_with v b) word
-    ∙ ap (λ (k : Bool). cond k (only_if (leb 4 (length b)) (Some (long_of w (from_le_bytes w16 (take 2 (drop 2 b))), drop 4 b))) (only_if (ltb w (2 ^ 15 + 2 ^ 14)) (Some (short_of w, drop 2 b)))) (le-ltb w (2 ^ 15) (omega arith))
+    ∙ ap
+    (λ (k : Bool). cond k (only_if (leb 4 (length b)) (Some (long_of w (from_le_bytes w16 (take 2 (drop 2 b))), drop 4 b))) (only_if (ltb w (2 ^ 15 + 2 ^ 14)) (Some (short_of w, drop 2 b))))
+    (le-ltb w (2 ^ 15) (omega arith))
     ∙ ap (λ (k : Bool). only_if k (Some (short_of w, drop 2 b))) (lt-ltb w (2 ^ 15 + 2 ^ 14) (omega arith))
-    ∙ header_same (eqb (w / 2 ^ 13 % 2) 1) h.minus (w / 2 ^ 7 % 64) h.dscale (short_lift (w % 128)) h.lift (drop 2 b) r (minus_short h.minus h.dscale s f k) (omega arith) (ap short_lift (omega arith) ∙ sym l) (ap (drop 2) parts ∙ drop_at (to_le_bytes w16 w) r 2 refl)
+    ∙ header_same (eqb (w / 2 ^ 13 % 2) 1) h.minus (w / 2 ^ 7 % 64) h.dscale (short_lift (w % 128)) h.lift (drop 2 b) r
+    (minus_short h.minus h.dscale s f k) (omega arith) (ap short_lift (omega arith) ∙ sym l)
+    (ap (drop 2) parts ∙ drop_at (to_le_bytes w16 w) r 2 refl)
 header_again head h r (inr (v, k, f, l, e)) =
     let w = 2 ^ 14 * bit h.minus + h.dscale in
     let b = head ++ r in
     let m = bit_of h.minus in
     let rest = to_le_bytes w16 v ++ r in
     let parts : b ≡ to_le_bytes w16 w ++ rest = ap (λ (x : List ℕ). x ++ r) e in
-    let word : from_le_bytes w16 (take 2 b) ≡ w = ap (from_le_bytes w16) (ap (take 2) parts ∙ take_at (to_le_bytes w16 w) rest 2 refl) ∙ from_le_bytes-to_le_bytes_2 w (omega arith) in
+    let word : from_le_bytes w16 (take 2 b) ≡ w =
+    ap (from_le_bytes w16) (ap (take 2) parts ∙ take_at (to_le_bytes w16 w) rest 2 refl) ∙ from_le_bytes-to_le_bytes_2 w (omega arith) in
     let after : drop 2 b ≡ rest = ap (drop 2) parts ∙ drop_at (to_le_bytes w16 w) rest 2 refl in
-    let weight : from_le_bytes w16 (take 2 (drop 2 b)) ≡ v = ap (from_le_bytes w16) (ap (take 2) after ∙ take_at (to_le_bytes w16 v) r 2 refl) ∙ from_le_bytes-to_le_bytes_2 v k in
+    let weight : from_le_bytes w16 (take 2 (drop 2 b)) ≡ v =
+    ap (from_le_bytes w16) (ap (take 2) after ∙ take_at (to_le_bytes w16 v) r 2 refl) ∙ from_le_bytes-to_le_bytes_2 v k in
     let long : 4 ≤ length b = omega (arith, ap length parts, length-append (to_le_bytes w16 w) rest, length-append (to_le_bytes w16 v) r) in
     ap (λ (k : Bool). only_if k (header_with (from_le_bytes w16 (take 2 b)) b)) (le-leb 2 (length b) (omega arith))
     ∙ ap (λ (u : ℕ). header_with u b) word
-    ∙ ap (λ (k : Bool). cond k (only_if (leb 4 (length b)) (Some (long_of w (from_le_bytes w16 (take 2 (drop 2 b))), drop 4 b))) (only_if (ltb w (2 ^ 15 + 2 ^ 14)) (Some (short_of w, drop 2 b)))) (lt-ltb w (2 ^ 15) (omega arith))
+    ∙ ap
+    (λ (k : Bool). cond k (only_if (leb 4 (length b)) (Some (long_of w (from_le_bytes w16 (take 2 (drop 2 b))), drop 4 b))) (only_if (ltb w (2 ^ 15 + 2 ^ 14)) (Some (short_of w, drop 2 b))))
+    (lt-ltb w (2 ^ 15) (omega arith))
     ∙ ap (λ (k : Bool). only_if k (Some (long_of w (from_le_bytes w16 (take 2 (drop 2 b))), drop 4 b))) (le-leb 4 (length b) long)
-    ∙ header_same (leb (2 ^ 14) w) h.minus (w % 2 ^ 14) h.dscale (long_lift (from_le_bytes w16 (take 2 (drop 2 b)))) h.lift (drop 4 b) r (minus_long h.minus h.dscale f) (omega arith) (ap long_lift weight ∙ sym l) (ap (drop 4) parts)
+    ∙ header_same (leb (2 ^ 14) w) h.minus (w % 2 ^ 14) h.dscale (long_lift (from_le_bytes w16 (take 2 (drop 2 b)))) h.lift (drop 4 b) r
+    (minus_long h.minus h.dscale f) (omega arith) (ap long_lift weight ∙ sym l) (ap (drop 4) parts)
 
 -- ---- the groups
 
@@ -183,7 +215,8 @@ groups_take (suc n) (x ∷ y ∷ b) gs le fits e =
     let a = bind_some (groups_of b) (λ gs. Some ((x + 256 * y) ∷ gs)) gs e in
     let more = groups_take n b a.0 (omega arith) (λ i. fits (suc (suc i))) a.1 in
     let two : to_le_bytes w16 (x + 256 * y) ≡ x ∷ y ∷ [] = le_bytes_2 (x ∷ y ∷ []) (x + 256 * y) refl (two_fit x y (fits 0) (fits 1)) (omega arith) in
-    subst (λ (r : List ℕ). x ∷ y ∷ b ≡ flat_map (to_le_bytes w16) r) (some_is ((x + 256 * y) ∷ a.0) gs a.2) (ap (λ (f : List ℕ). f ++ b) (sym two) ∙ ap (λ (r : List ℕ). to_le_bytes w16 (x + 256 * y) ++ r) more)
+    subst (λ (r : List ℕ). x ∷ y ∷ b ≡ flat_map (to_le_bytes w16) r) (some_is ((x + 256 * y) ∷ a.0) gs a.2)
+    (ap (λ (f : List ℕ). f ++ b) (sym two) ∙ ap (λ (r : List ℕ). to_le_bytes w16 (x + 256 * y) ++ r) more)
 
 pub groups_again : (gs : List ℕ) → IsTrue (all_below gs) → groups_of (flat_map (to_le_bytes w16) gs) ≡ Some gs
 unfolding groups_of
@@ -223,7 +256,8 @@ not_true : (b : Bool) → not b ≡ true → b ≡ false
 not_true true e = absurd cc
 not_true false e = refl
 
-pub decimal_same : (a b : ℤ) (f g : ℕ) → a ≡ b → f ≡ g → ◌≡◌ {A = Option Decimal} (Some (record { digits = a; places = f })) (Some (record { digits = b; places = g }))
+pub decimal_same : (a b : ℤ) (f g : ℕ) → a ≡ b → f ≡ g
+    → ◌≡◌ {A = Option Decimal} (Some (record { digits = a; places = f })) (Some (record { digits = b; places = g }))
 decimal_same a b f g e h = rw (e, h) refl
 
 abbrev pub whole : Header → List ℕ → ℕ
@@ -284,7 +318,8 @@ value_again h (x ∷ gs) d v =
 -- ---- the whole number
 
 are_below : (gs : List ℕ) → are_groups gs ≡ true → all_below gs ≡ true
-are_below gs e = (and_parts (all_below gs) (ltb 0 (get_or gs 0 1)) (and_parts (all_below gs && ltb 0 (get_or gs 0 1)) (ltb 0 (get_or gs (length gs - 1) 1)) e).0).0
+are_below gs e =
+    (and_parts (all_below gs) (ltb 0 (get_or gs 0 1)) (and_parts (all_below gs && ltb 0 (get_or gs 0 1)) (ltb 0 (get_or gs (length gs - 1) 1)) e).0).0
 
 pub numeric_takes : (p : List ℕ) (d : Decimal) → IsBytes p → numeric_of p ≡ Some d → Numeric p d
 unfolding numeric_of
@@ -296,11 +331,22 @@ numeric_takes p d fits e =
     let v = varlena_takes p a.0 fits a.1 in
     let h = header_takes a.0 b.0 v.1 b.1 in
     let gs = groups_take (length b.0.1) b.0.1 c.0 (omega arith) h.fits c.1 in
-    record { body = a.0; head = h.head; header = b.0.0; groups = c.0; varlena = v.0; parts = h.parts ∙ ap (λ (r : List ℕ). h.head ++ r) gs; form = h.form; fit = g.0; value = value_takes b.0.0 c.0 d g.1 }
+    record {
+      body = a.0;
+      head = h.head;
+      header = b.0.0;
+      groups = c.0;
+      varlena = v.0;
+      parts = h.parts ∙ ap (λ (r : List ℕ). h.head ++ r) gs;
+      form = h.form;
+      fit = g.0;
+      value = value_takes b.0.0 c.0 d g.1;
+    }
 
 pub numeric_again : (p : List ℕ) (d : Decimal) → Numeric p d → numeric_of p ≡ Some d
 unfolding numeric_of
 numeric_again p d n =
-    let head : header_of n.body ≡ Some (n.header, flat_map (to_le_bytes w16) n.groups) = ap header_of n.parts ∙ header_again n.head n.header (flat_map (to_le_bytes w16) n.groups) n.form in
+    let head : header_of n.body ≡ Some (n.header, flat_map (to_le_bytes w16) n.groups) =
+    ap header_of n.parts ∙ header_again n.head n.header (flat_map (to_le_bytes w16) n.groups) n.form in
     let gs = groups_again n.groups (are_below n.groups n.fit) in
     rw (varlena_again p n.body n.varlena, head, gs, n.fit) (value_again n.header n.groups d n.value)

@@ -29,8 +29,10 @@ unpadded_takes at piece q e =
     let t = and_parts (leb (pad at) (length piece)) (list_all (λ b. eqb b 0) (take (pad at) piece)) g.0 in
     let rest : drop (pad at) piece ≡ q = some_is _ _ g.1 in
     let len : length (take (pad at) piece) ≡ pad at = length-take-le (pad at) piece (leb-true _ _ t.0) in
-    let front : take (pad at) piece ≡ padding at = all_zero_is (take (pad at) piece) t.1 ∙ ap (λ (n : ℕ). replicate n 0) len in
-    (sym (take-append-drop (pad at) piece) ∙ ap (λ (f : List ℕ). f ++ drop (pad at) piece) front ∙ ap (λ (r : List ℕ). padding at ++ r) rest, sym rest)
+    let front : take (pad at) piece ≡ padding at = all_zero_is (take (pad at) piece) t.1 ∙ ap (λ (n : ℕ). replicate n 0) len in (
+      sym (take-append-drop (pad at) piece) ∙ ap (λ (f : List ℕ). f ++ drop (pad at) piece) front ∙ ap (λ (r : List ℕ). padding at ++ r) rest,
+      sym rest,
+    )
 
 pub unpadded_again : (at : ℕ) (piece q : List ℕ) → piece ≡ padding at ++ q → unpadded at piece ≡ Some q
 unfolding unpadded
@@ -55,7 +57,8 @@ scalar_takes at x s fits e = elim (chosen (eqb x.kind 0) (Some (string x.piece))
         let a = bind_some (unpadded at x.piece) (λ q. numeric_of q >>= λ d. Some (number d)) s g.1 in
         let b = bind_some (numeric_of a.0) (λ d. Some (number d)) s a.2 in
         let u = unpadded_takes at x.piece a.0 a.1 in
-        subst (λ (y : Scalar). IsScalar y at x) (some_is (number b.0) s b.2) (eqb-true x.kind 1 g.0, (a.0, u.0, numeric_takes a.0 b.0 (rw u.1 (IsBytes-drop (pad at) x.piece fits)) b.1))
+        subst (λ (y : Scalar). IsScalar y at x) (some_is (number b.0) s b.2)
+        (eqb-true x.kind 1 g.0, (a.0, u.0, numeric_takes a.0 b.0 (rw u.1 (IsBytes-drop (pad at) x.piece fits)) b.1))
     | inr g1 ↦ elim (chosen (eqb x.kind 2) (only_if (eqb (length x.piece) 0) (Some (boolean false))) _ (Some s) g1.1) [
       | inl g ↦ let h = empty_takes x.piece (boolean false) s g.1 in subst (λ (y : Scalar). IsScalar y at x) h.1 (eqb-true x.kind 2 g.0, h.0)
       | inr g2 ↦ elim (chosen (eqb x.kind 3) (only_if (eqb (length x.piece) 0) (Some (boolean true))) _ (Some s) g2.1) [

@@ -33,7 +33,8 @@ array_values Object ks xs items f k e = absurd cc
 array_values Lone ks xs items f k e = absurd k
 
 -- The values of an object are as many as its keys.
-object_values : (f : Form) (ks xs js items : List Item) → f ≡ Object → AreKeys f ks xs → ks ++ xs ≡ js ++ items → length js ≡ length items → length xs ≡ length items
+object_values : (f : Form) (ks xs js items : List Item) → f ≡ Object → AreKeys f ks xs → ks ++ xs ≡ js ++ items → length js ≡ length items
+    → length xs ≡ length items
 object_values Array ks xs js items f k e n = absurd cc
 object_values Object ks xs js items f k e n = omega (arith, k, n, ap length e, length-append ks xs, length-append js items)
 object_values Lone ks xs js items f k e n = absurd k
@@ -44,12 +45,14 @@ object_values Lone ks xs js items f k e n = absurd k
 abbrev all_values : {s : Seat} {i : ℕ} {c : Seat} → Holds s i c → List Item
 all_values h = h.before ++ (h.item ∷ h.after)
 
-in_array : (s : Seat) (i : ℕ) (c : Seat) (ts : Elements) (h : Holds s i c) → IsArray (AreElements ts) s.bytes → length (all_values h) ≡ length (trees_in ts)
+in_array : (s : Seat) (i : ℕ) (c : Seat) (ts : Elements) (h : Holds s i c) → IsArray (AreElements ts) s.bytes
+    → length (all_values h) ≡ length (trees_in ts)
 in_array s i c ts h (items, l, are) =
     let same = one_layout s.bytes h.form Array (h.keys ++ all_values h) items h.laid l in
     array_values h.form h.keys (all_values h) items same.0 h.values same.1 ∙ sym (trees_count ts 0 items are)
 
-in_object : (s : Seat) (i : ℕ) (c : Seat) (ms : Members) (h : Holds s i c) → IsObject (keys ms) (AreValues ms) s.bytes → length (all_values h) ≡ length (trees_in (values ms))
+in_object : (s : Seat) (i : ℕ) (c : Seat) (ms : Members) (h : Holds s i c) → IsObject (keys ms) (AreValues ms) s.bytes
+    → length (all_values h) ≡ length (trees_in (values ms))
 in_object s i c ms h (items, l, rise, are) =
     let ks = map key_item (keys ms) in
     let same = one_layout s.bytes h.form Object (h.keys ++ all_values h) (ks ++ items) h.laid l in
@@ -63,7 +66,8 @@ as_many s i c (array ts) h (five, (q, b, k)) = in_array s i c ts h (subst (IsArr
 as_many s i c (object ms) h (five, (q, b, k)) = in_object s i c ms h (subst (IsObject (keys ms) (AreValues ms)) (sym b) k)
 
 -- A value that is held stands for the tree of its number.
-held_stands : (s : Seat) (i : ℕ) (c : Seat) (t : Tree) → Holds s i c → SeatStands s t → (u : Tree) × (slice_get (trees_of t) i ≡ Some u) × SeatStands c u
+held_stands : (s : Seat) (i : ℕ) (c : Seat) (t : Tree) → Holds s i c → SeatStands s t
+    → (u : Tree) × (slice_get (trees_of t) i ≡ Some u) × SeatStands c u
 held_stands s i c t h k =
     let few : i < length (trees_of t) = omega (arith, h.number, as_many s i c t h k, length-append h.before (h.item ∷ h.after)) in
     elim (slice_get_cases (trees_of t) i).1 [

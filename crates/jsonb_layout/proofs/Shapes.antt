@@ -29,15 +29,24 @@ RisingKeys n before ks = (length ks ≡ n) × (rises_after before ks ≡ true)
 
 keys_rising : (n : ℕ) (before : Option (List ℕ)) (p : Place) (r : List (List ℕ) × Place) → keys_at n before p ≡ Some r → RisingKeys n before r.0
 unfolding keys_at
-keys_rising zero before p r e = let same = some_is ([], p) r e in (ap (λ (y : List (List ℕ) × Place). length y.0) (sym same), ap (λ (y : List (List ℕ) × Place). rises_after before y.0) (sym same) ∙ starts before)
+keys_rising zero before p r e =
+    let same = some_is ([], p) r e in (
+      ap (λ (y : List (List ℕ) × Place). length y.0) (sym same),
+      ap (λ (y : List (List ℕ) × Place). rises_after before y.0) (sym same) ∙ starts before,
+    )
 keys_rising (suc n) before p r e =
-    let a = bind_some (item_at p) (λ x. only_if (eqb x.0.kind 0 && follows before x.0.piece) (keys_at n (Some x.0.piece) x.1) >>= λ ks. Some (x.0.piece ∷ ks.0, ks.1)) r e in
-    let b = bind_some (only_if (eqb a.0.0.kind 0 && follows before a.0.0.piece) (keys_at n (Some a.0.0.piece) a.0.1)) (λ ks. Some (a.0.0.piece ∷ ks.0, ks.1)) r a.2 in
+    let a =
+    bind_some (item_at p)
+    (λ x. only_if (eqb x.0.kind 0 && follows before x.0.piece) (keys_at n (Some x.0.piece) x.1) >>= λ ks. Some (x.0.piece ∷ ks.0, ks.1)) r e in
+    let b =
+    bind_some (only_if (eqb a.0.0.kind 0 && follows before a.0.0.piece) (keys_at n (Some a.0.0.piece) a.0.1))
+    (λ ks. Some (a.0.0.piece ∷ ks.0, ks.1)) r a.2 in
     let g = guard (eqb a.0.0.kind 0 && follows before a.0.0.piece) (keys_at n (Some a.0.0.piece) a.0.1) b.0 b.1 in
     let more = keys_rising n (Some a.0.0.piece) a.0.1 b.0 g.1 in
     let same = some_is (a.0.0.piece ∷ b.0.0, b.0.1) r b.2 in (
       ap (λ (y : List (List ℕ) × Place). length y.0) (sym same) ∙ ap suc more.0,
-      ap (λ (y : List (List ℕ) × Place). rises_after before y.0) (sym same) ∙ rises_more before a.0.0.piece b.0.0 (and_parts (eqb a.0.0.kind 0) (follows before a.0.0.piece) g.0).1 more.1,
+      ap (λ (y : List (List ℕ) × Place). rises_after before y.0) (sym same)
+          ∙ rises_more before a.0.0.piece b.0.0 (and_parts (eqb a.0.0.kind 0) (follows before a.0.0.piece) g.0).1 more.1,
     )
 
 pub keys_count : (n : ℕ) (p : Place) (r : List (List ℕ) × Place) → keys_at n None p ≡ Some r → length r.0 ≡ n

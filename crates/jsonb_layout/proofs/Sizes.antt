@@ -52,8 +52,12 @@ pub keys_size : (n : ℕ) (before : Option (List ℕ)) (p : Place) (r : List (Li
 unfolding keys_at
 keys_size zero before p r e = subst (λ (y : List (List ℕ) × Place). size y.1 ≤ size p) (some_is ([], p) r e) (omega arith)
 keys_size (suc n) before p r e =
-    let a = bind_some (item_at p) (λ x. only_if (eqb x.0.kind 0 && follows before x.0.piece) (keys_at n (Some x.0.piece) x.1) >>= λ ks. Some (x.0.piece ∷ ks.0, ks.1)) r e in
-    let b = bind_some (only_if (eqb a.0.0.kind 0 && follows before a.0.0.piece) (keys_at n (Some a.0.0.piece) a.0.1)) (λ ks. Some (a.0.0.piece ∷ ks.0, ks.1)) r a.2 in
+    let a =
+    bind_some (item_at p)
+    (λ x. only_if (eqb x.0.kind 0 && follows before x.0.piece) (keys_at n (Some x.0.piece) x.1) >>= λ ks. Some (x.0.piece ∷ ks.0, ks.1)) r e in
+    let b =
+    bind_some (only_if (eqb a.0.0.kind 0 && follows before a.0.0.piece) (keys_at n (Some a.0.0.piece) a.0.1))
+    (λ ks. Some (a.0.0.piece ∷ ks.0, ks.1)) r a.2 in
     let g = guard (eqb a.0.0.kind 0 && follows before a.0.0.piece) (keys_at n (Some a.0.0.piece) a.0.1) b.0 b.1 in
     let i = item_size p a.0.1 a.0.0 a.1 in
     let m = keys_size n (Some a.0.0.piece) a.0.1 b.0 g.1 in

@@ -45,8 +45,10 @@ joined_last (g ∷ []) h = (0, omega arith)
 joined_last (g ∷ g' ∷ gs) h =
     let more = joined_last (g' ∷ gs) (omega arith) in
     let i : length (g ∷ g' ∷ gs) - 1 ≡ suc (length (g' ∷ gs) - 1) = omega arith in
-    let last : get_or (g ∷ g' ∷ gs) (length (g ∷ g' ∷ gs) - 1) 1 ≡ get_or (g' ∷ gs) (length (g' ∷ gs) - 1) 1 = ap (λ (n : ℕ). get_or (g ∷ g' ∷ gs) n 1) i in
-    let p : g * 10000 ^ length (g' ∷ gs) ≡ g * 10000 ^ length gs * 10000 = times g (10000 ^ length (g' ∷ gs)) (10000 ^ length gs) (pow-suc 10000 (length gs)) in
+    let last : get_or (g ∷ g' ∷ gs) (length (g ∷ g' ∷ gs) - 1) 1 ≡ get_or (g' ∷ gs) (length (g' ∷ gs) - 1) 1 =
+    ap (λ (n : ℕ). get_or (g ∷ g' ∷ gs) n 1) i in
+    let p : g * 10000 ^ length (g' ∷ gs) ≡ g * 10000 ^ length gs * 10000 =
+    times g (10000 ^ length (g' ∷ gs)) (10000 ^ length gs) (pow-suc 10000 (length gs)) in
     (g * 10000 ^ length gs + more.0, omega (arith, more.1, last, p))
 
 joined_below : (gs : List ℕ) → all_below gs ≡ true → joined gs < 10000 ^ length gs
@@ -81,7 +83,8 @@ pub record Joins (g : ℕ) (gs : List ℕ) (z n : ℕ) : Type 0 where
 split_last : (a q z j : ℕ) → z ≤ 3 → j ≡ a * 10000 + q * 10 ^ z → (q % 10 ≡ 0 → ⊥) → (n : ℕ) × (j ≡ n * 10 ^ z) × (n % 10 ≡ 0 → ⊥)
 split_last a q z j few e last =
     let i : suc (3 - z) + z ≡ 4 = omega arith in
-    let t : 10000 ≡ 10 ^ (3 - z) * 10 * 10 ^ z = sym (ap (λ (x : ℕ). x * 10 ^ z) (sym (pow-suc 10 (3 - z))) ∙ sym (pow-add 10 (suc (3 - z)) z) ∙ ap (λ (k : ℕ). 10 ^ k) i) in
+    let t : 10000 ≡ 10 ^ (3 - z) * 10 * 10 ^ z =
+    sym (ap (λ (x : ℕ). x * 10 ^ z) (sym (pow-suc 10 (3 - z))) ∙ sym (pow-add 10 (suc (3 - z)) z) ∙ ap (λ (k : ℕ). 10 ^ k) i) in
     let n = a * 10 ^ (3 - z) * 10 + q in
     (n, e ∙ ap (λ (x : ℕ). a * x + q * 10 ^ z) t ∙ products a (10 ^ (3 - z)) (10 ^ z) q, λ h. last (omega arith))
   where
@@ -106,7 +109,8 @@ whole_is h g gs z n j =
     products f n z w = omega arith
 
 -- how many digits there are
-bounds : (g : ℕ) (gs : List ℕ) (k z n : ℕ) → Ends g gs k z → Joins g gs z n → (n * 10 ^ z < 10 ^ (k + 4 * length gs)) × (10 ^ (k - 1 + 4 * length gs) ≤ n * 10 ^ z)
+bounds : (g : ℕ) (gs : List ℕ) (k z n : ℕ) → Ends g gs k z → Joins g gs z n
+    → (n * 10 ^ z < 10 ^ (k + 4 * length gs)) × (10 ^ (k - 1 + 4 * length gs) ≤ n * 10 ^ z)
 bounds g gs k z n e j =
     let t = and_parts (ltb g 10000) (all_below gs) e.below in
     let f = fours (length gs) in
@@ -140,7 +144,8 @@ large_if n z t le ge lt =
 not_narrow : (d : Decimal) (n c : ℕ) → nat_abs d.digits ≡ n * 10 ^ c → (n % 10 ≡ 0 → ⊥) → 10 ^ 38 ≤ n → (b : Bool) → is_narrow d ≡ b → b ≡ false
 not_narrow d n c e last ge true h =
     let w = narrow_takes d h in
-    let below : w.1 * 10 ^ w.0 < 10 ^ 38 * 10 ^ w.0 = subst (λ (x : ℕ). x < 10 ^ 38 * 10 ^ w.0) w.2 (subst (λ (x : ℕ). nat_abs d.digits < x) (pow-add 10 38 w.0) w.3) in
+    let below : w.1 * 10 ^ w.0 < 10 ^ 38 * 10 ^ w.0 =
+    subst (λ (x : ℕ). x < 10 ^ 38 * 10 ^ w.0) w.2 (subst (λ (x : ℕ). nat_abs d.digits < x) (pow-add 10 38 w.0) w.3) in
     let small : w.1 < 10 ^ 38 = lt_of_mul-lt-mul_right (10 ^ w.0) below in
     let le : n ≤ w.1 = least n c w.1 w.0 (sym e ∙ w.2) last in
     absurd (omega arith)
@@ -155,8 +160,11 @@ narrow_test d n c e last = elim (cases_lt n (10 ^ 38)) [
 -- the number of digits decides
 count_test : (g : ℕ) (gs : List ℕ) (k z n : ℕ) → Ends g gs k z → Joins g gs z n → ltb n (10 ^ 38) ≡ leb (4 * length gs + k - z) 38
 count_test g gs k z n e j = elim (cases_lt 38 (4 * length gs + k - z)) [
-  | inl gt ↦ le-ltb n (10 ^ 38) (not_lt n (10 ^ 38) (large_if n z (k - 1 + 4 * length gs) (omega (arith, e.some)) (bounds g gs k z n e j).1)) ∙ sym (lt-leb (4 * length gs + k - z) 38 gt)
-  | inr le ↦ lt-ltb n (10 ^ 38) (small_if n z (k + 4 * length gs) (omega arith) (bounds g gs k z n e j).0) ∙ sym (le-leb (4 * length gs + k - z) 38 le)
+  | inl gt ↦
+      le-ltb n (10 ^ 38) (not_lt n (10 ^ 38) (large_if n z (k - 1 + 4 * length gs) (omega (arith, e.some)) (bounds g gs k z n e j).1))
+      ∙ sym (lt-leb (4 * length gs + k - z) 38 gt)
+  | inr le ↦
+      lt-ltb n (10 ^ 38) (small_if n z (k + 4 * length gs) (omega arith) (bounds g gs k z n e j).0) ∙ sym (le-leb (4 * length gs + k - z) 38 le)
 ]
   where
     not_lt : (a b : ℕ) → (a < b → ⊥) → b ≤ a
@@ -165,7 +173,8 @@ count_test g gs k z n e j = elim (cases_lt 38 (4 * length gs + k - z)) [
 are_some : (h : Header) (g : ℕ) (gs : List ℕ) (k z : ℕ) → Ends g gs k z → are_groups (g ∷ gs) ≡ true
 are_some h g gs k z e =
     let t = one-le-pow (k - 1) 10 ten in
-    let last : 0 < get_or (g ∷ gs) (length (g ∷ gs) - 1) 1 = last_pos (get_or (g ∷ gs) (length (g ∷ gs) - 1) 1) e.last.0 (10 ^ z) e.last.1 e.last.2 (one-le-pow z 10 ten) in
+    let last : 0 < get_or (g ∷ gs) (length (g ∷ gs) - 1) 1 =
+    last_pos (get_or (g ∷ gs) (length (g ∷ gs) - 1) 1) e.last.0 (10 ^ z) e.last.1 e.last.2 (one-le-pow z 10 ten) in
     rw (e.below, lt-ltb 0 g (omega (arith, e.at_least)), lt-ltb 0 (get_or (g ∷ gs) (length (g ∷ gs) - 1) 1) last) refl
   where
     last_pos : (l q p : ℕ) → l ≡ q * p → (q % 10 ≡ 0 → ⊥) → 0 < p → 0 < l
@@ -192,7 +201,8 @@ quotient : (n a b w u : ℕ) → b ≤ a → w ≡ n * 10 ^ a → u ≡ 10 ^ b �
 quotient n a b w u le e f = rw (e, f, cut n a b le) (mul-div_cancel (n * 10 ^ (a - b)) (one-le-pow b 10 ten))
 
 pub decided : (h : Header) (g : ℕ) (gs : List ℕ) (k z : ℕ) → Ends g gs k z
-    → option_map is_narrow (only_if (are_groups (g ∷ gs)) (value_of h (g ∷ gs))) ≡ only_if (fits_in h (g ∷ gs) z) (Some (leb (4 * length gs + k - z) 38))
+    → option_map is_narrow (only_if (are_groups (g ∷ gs)) (value_of h (g ∷ gs)))
+    ≡ only_if (fits_in h (g ∷ gs) z) (Some (leb (4 * length gs + k - z) 38))
 unfolding value_of
 decided h g gs k z e =
     let jn = joins g gs k z e in
@@ -206,8 +216,14 @@ decided h g gs k z e =
     let u-is : u ≡ 10 ^ b = fours (length (g ∷ gs) + 2 ^ 15) in
     ap (λ (t : Bool). option_map is_narrow (only_if t (value_of h (g ∷ gs)))) (are_some h g gs k z e)
     ∙ ap (λ (t : Bool). option_map is_narrow (cond t (none_of h) (some_of h w u))) (ne_eqb (suc (length gs)) 0 (λ y. absurd cc))
-    ∙ ap (λ (t : Bool). option_map is_narrow (only_if t (Some (record { digits = signed h.minus (w / u); places = h.dscale })))) (divides n a b j.last w u w-is u-is)
+    ∙ ap (λ (t : Bool). option_map is_narrow (only_if t (Some (record { digits = signed h.minus (w / u); places = h.dscale }))))
+    (divides n a b j.last w u w-is u-is)
     ∙ elim (cases_lt a b) [
       | inl lt ↦ rw (lt-leb b a lt) refl
-      | inr le ↦ rw (le-leb b a le) (ap (λ (t : Bool). Some t) (narrow_test (record { digits = signed h.minus (w / u); places = h.dscale }) n (a - b) (abs_signed h.minus (w / u) ∙ quotient n a b w u le w-is u-is) j.last ∙ count_test g gs k z n e j))
+      | inr le ↦
+          rw (le-leb b a le)
+          (ap (λ (t : Bool). Some t)
+          (narrow_test (record { digits = signed h.minus (w / u); places = h.dscale }) n (a - b)
+          (abs_signed h.minus (w / u) ∙ quotient n a b w u le w-is u-is) j.last
+          ∙ count_test g gs k z n e j))
     ]

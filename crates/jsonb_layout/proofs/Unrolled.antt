@@ -22,12 +22,14 @@ module _ (f g : List ℕ → Option Tree) (n : ℕ) (same : (c : List ℕ) → l
   item_same : (at : ℕ) (x : Item) → length x.piece < n → item_by f at x ≡ item_by g at x
   item_same at x lt = go (eqb x.kind 5) (unpadded at x.piece) (λ k e. unpadded_size at x.piece k e)
     where
-      go : (b : Bool) (r : Option (List ℕ)) → ((k : List ℕ) → r ≡ Some k → length k ≤ length x.piece) → cond b (r >>= f) (scalar_of at x >>= λ s. Some (scalar s)) ≡ cond b (r >>= g) (scalar_of at x >>= λ s. Some (scalar s))
+      go : (b : Bool) (r : Option (List ℕ)) → ((k : List ℕ) → r ≡ Some k → length k ≤ length x.piece)
+          → cond b (r >>= f) (scalar_of at x >>= λ s. Some (scalar s)) ≡ cond b (r >>= g) (scalar_of at x >>= λ s. Some (scalar s))
       go true None len = refl
       go true (Some k) len = same k (omega (arith, len k refl))
       go false r len = refl
 
-  step_same : (p : Place) (c : ℕ) → ((q : Place) → size q ≤ n → elements_by f c q ≡ elements_by g c q) → size p ≤ n → (r : Option (Item × Place)) → ((x : Item) (q : Place) → r ≡ Some (x, q) → size q + length x.piece + 4 ≤ size p)
+  step_same : (p : Place) (c : ℕ) → ((q : Place) → size q ≤ n → elements_by f c q ≡ elements_by g c q) → size p ≤ n → (r : Option (Item × Place))
+      → ((x : Item) (q : Place) → r ≡ Some (x, q) → size q + length x.piece + 4 ≤ size p)
       → step_by f c p r ≡ step_by g c p r
   step_same p c more le None len = refl
   step_same p c more le (Some (x, q)) len =
@@ -48,7 +50,8 @@ module _ (f g : List ℕ → Option Tree) (n : ℕ) (same : (c : List ℕ) → l
       go (Some k) len = rw (elements_same c k.1 (omega (arith, len k refl))) refl
   held_same Lone c p le = refl
 
-opened_same : (f g : List ℕ → Option Tree) (n : ℕ) → ((c : List ℕ) → length c < n → f c ≡ g c) → (r : Option (Form × ℕ × Place)) → ((o : Form × ℕ × Place) → r ≡ Some o → size o.2 + 4 ≤ n) → held_all f r ≡ held_all g r
+opened_same : (f g : List ℕ → Option Tree) (n : ℕ) → ((c : List ℕ) → length c < n → f c ≡ g c) → (r : Option (Form × ℕ × Place))
+    → ((o : Form × ℕ × Place) → r ≡ Some o → size o.2 + 4 ≤ n) → held_all f r ≡ held_all g r
 opened_same f g n same None len = refl
 opened_same f g n same (Some o) len = held_same f g n same o.0 o.1 o.2 (omega (arith, len o refl))
 
@@ -56,9 +59,12 @@ container_same : (f g : ℕ) (b : List ℕ) → length b < f → length b < g �
 unfolding container_of
 container_same zero g b h k = absurd (omega arith)
 container_same (suc f) zero b h k = absurd (omega arith)
-container_same (suc f) (suc g) b h k = opened_same (container_of f) (container_of g) (length b) (λ c lt. container_same f g c (omega arith) (omega arith)) (opened b) (opened_size b)
+container_same (suc f) (suc g) b h k =
+    opened_same (container_of f) (container_of g) (length b) (λ c lt. container_same f g c (omega arith) (omega arith)) (opened b) (opened_size b)
 
 -- A container is one level of containers.
 pub read_unroll : (b : List ℕ) → read b ≡ (opened b >>= λ o. held_by read o.0 o.1 o.2)
 unfolding read container_of
-read_unroll b = opened_same (container_of (length b)) read (length b) (λ c lt. container_same (length b) (suc (length c)) c lt (omega arith)) (opened b) (opened_size b)
+read_unroll b =
+    opened_same (container_of (length b)) read (length b) (λ c lt. container_same (length b) (suc (length c)) c lt (omega arith)) (opened b)
+    (opened_size b)

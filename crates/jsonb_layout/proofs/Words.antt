@@ -22,7 +22,11 @@ pub record Says (b : Bool) (k at n w : ℕ) : Type 0 where
 says : (b : Bool) (k at n : ℕ) → k < 8 → at + n < 2 ^ 28 → Says b k at n (word_by b k (at + n) n)
 says true k at n h l =
     let m : (2 ^ 31 + k * 2 ^ 28 + (at + n)) % 2 ^ 28 ≡ at + n = omega arith in
-    record { fits = omega arith; kind = omega arith; len = rw (le-leb (2 ^ 31) (2 ^ 31 + k * 2 ^ 28 + (at + n)) (omega arith), m, le-leb at (at + n) (omega arith)) (ap Some (omega arith)) }
+    record {
+      fits = omega arith;
+      kind = omega arith;
+      len = rw (le-leb (2 ^ 31) (2 ^ 31 + k * 2 ^ 28 + (at + n)) (omega arith), m, le-leb at (at + n) (omega arith)) (ap Some (omega arith));
+    }
 says false k at n h l =
     let m : (k * 2 ^ 28 + n) % 2 ^ 28 ≡ n = omega arith in
     record { fits = omega arith; kind = omega arith; len = rw (lt-ltb (k * 2 ^ 28 + n) (2 ^ 31) (omega arith), m) refl }
@@ -41,10 +45,12 @@ said false at n w h e =
     let n-is : w % 2 ^ 28 ≡ n = some_is _ _ g.1 in
     omega arith
 
-pub entry_says : (i at : ℕ) (x : Item) → x.kind < 8 → at + length x.piece < 2 ^ 28 → Says (eqb (i % 32) 0) x.kind at (length x.piece) (entry i (at + length x.piece) x)
+pub entry_says : (i at : ℕ) (x : Item) → x.kind < 8 → at + length x.piece < 2 ^ 28
+    → Says (eqb (i % 32) 0) x.kind at (length x.piece) (entry i (at + length x.piece) x)
 entry_says i at x h l = says (eqb (i % 32) 0) x.kind at (length x.piece) h l
 
-pub entry_said : (i at n w : ℕ) (piece : List ℕ) → w < 2 ^ 32 → length_of i at w ≡ Some n → length piece ≡ n → w ≡ entry i (at + n) (record { kind = w / 2 ^ 28 % 8; piece = piece })
+pub entry_said : (i at n w : ℕ) (piece : List ℕ) → w < 2 ^ 32 → length_of i at w ≡ Some n → length piece ≡ n
+    → w ≡ entry i (at + n) (record { kind = w / 2 ^ 28 % 8; piece = piece })
 unfolding length_of
 entry_said i at n w piece h e len = rw len (said (eqb (i % 32) 0) at n w h e)
 

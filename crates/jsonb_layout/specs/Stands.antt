@@ -30,7 +30,8 @@ IsArray Placed b = (items : List Item) × Laid b Array items × Placed 0 items
 
 -- An object's keys come first and rise. The other items, from the end of the keys on, are Placed.
 abbrev pub IsObject : List (List ℕ) → (ℕ → List Item → Type 0) → List ℕ → Type 0
-IsObject ks Placed b = (items : List Item) × Laid b Object (map key_item ks ++ items) × IsTrue (rises ks) × Placed (length (pieces (map key_item ks))) items
+IsObject ks Placed b =
+    (items : List Item) × Laid b Object (map key_item ks ++ items) × IsTrue (rises ks) × Placed (length (pieces (map key_item ks))) items
 
 abbrev mutual
   -- An item at a place stands for a tree.

@@ -16,7 +16,9 @@ use Rattle.jsonb_layout.specs.declared.form.Form.TheVariants.{Array, Object, Lon
 -- ---- numbers
 
 unfoldable pub varlena_of : List ℕ → Option (List ℕ)
-varlena_of p = if get_or p 0 0 % 2 == 1 then only_if (get_or p 0 0 == 2 * length p + 1) (Some (drop 1 p)) else only_if (nat_le 4 (length p) && from_le_bytes w32 (take 4 p) == 4 * length p) (Some (drop 4 p))
+varlena_of p =
+    if get_or p 0 0 % 2 == 1 then only_if (get_or p 0 0 == 2 * length p + 1) (Some (drop 1 p)) else only_if
+    (nat_le 4 (length p) && from_le_bytes w32 (take 4 p) == 4 * length p) (Some (drop 4 p))
 
 abbrev pub short_of : ℕ → Header
 short_of w = record { minus = w / 2 ^ 13 % 2 == 1; dscale = w / 2 ^ 7 % 64; lift = short_lift (w % 128) }
@@ -132,7 +134,8 @@ form_of word =
 -- the form, the count, and where the items begin, of the bytes behind the header word
 abbrev pub begun : List ℕ → Form × ℕ → Option (Form × ℕ × Place)
 begun body f = let size = 4 * items_in f.0 f.1 in
-    only_if (nat_le size (length body) && nat_lt (length body - size) (2 ^ 28)) (Some (f.0, f.1, record { index = 0; at = 0; words = take size body; rest = drop size body }))
+    only_if (nat_le size (length body) && nat_lt (length body - size) (2 ^ 28))
+    (Some (f.0, f.1, record { index = 0; at = 0; words = take size body; rest = drop size body }))
 
 -- the form and the count that the header word says
 unfoldable pub form_at : List ℕ → Option (Form × ℕ)

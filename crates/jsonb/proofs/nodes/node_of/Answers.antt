@@ -38,6 +38,8 @@ pub returns-clause-seat : goal.returns-clause-seat
 returns-clause-seat c =
     let own = c.own_bytes-bytes.ensures.own ∙ ap (own_of c.in-Some.kind c.args.at) c.piece-piece.ensures.piece in
     let bytes = c.own_bytes-bytes.result.now in
-    let at = ap (λ (piece : List ℕ). where_it_is bytes c.args.word_begin (c.args.piece_begin + (length piece - length bytes))) c.piece-piece.ensures.piece in
+    let at =
+    ap (λ (piece : List ℕ). where_it_is bytes c.args.word_begin (c.args.piece_begin + (length piece - length bytes)))
+    c.piece-piece.ensures.piece in
     seat_is c.args.at c.args.item c.requires.stands c.args.word_begin c.args.piece_begin _ c.in-Some.kind bytes c.in-Some.ensures own
     (c.offset_of-offset.ensures ∙ at)

@@ -6,10 +6,12 @@ pub returns-then-groups-lt2 : goal.returns-then-groups-lt2
 returns-then-groups-lt2 c = let s = shown c.args.groups.now c.requires.fit c.requires.some in absurd (omega (arith, s.len))
 
 pub returns-then-first-eq0 : goal.returns-then-first-eq0
-returns-then-first-eq0 c = let s = shown c.args.groups.now c.requires.fit c.requires.some in no_first c.args.header c.args.groups.now s (s.first ∙ c.if-first-eq0.true)
+returns-then-first-eq0 c =
+    let s = shown c.args.groups.now c.requires.fit c.requires.some in no_first c.args.header c.args.groups.now s (s.first ∙ c.if-first-eq0.true)
 
 pub returns-then-last-eq0 : goal.returns-then-last-eq0
-returns-then-last-eq0 c = let s = shown c.args.groups.now c.requires.fit c.requires.some in no_last c.args.header c.args.groups.now s (s.last ∙ c.if-last-eq0.true)
+returns-then-last-eq0 c =
+    let s = shown c.args.groups.now c.requires.fit c.requires.some in no_last c.args.header c.args.groups.now s (s.last ∙ c.if-last-eq0.true)
 
 pub zeros-zeros-requires-clause-fits : goal.zeros-zeros-requires-clause-fits
 zeros-zeros-requires-clause-fits c = let s = shown c.args.groups.now c.requires.fit c.requires.some in omega (arith, s.last, s.last_fits)
@@ -21,12 +23,14 @@ pub returns-then-count-room : goal.returns-then-count-room
 returns-then-count-room c =
     let s = shown c.args.groups.now c.requires.fit c.requires.some in
     too_long c.args.header c.args.groups.now s c.digits-digits.result c.zeros-zeros.result
-    (ends_are c.args.groups.now s c.digits-digits.result c.zeros-zeros.result _ _ (sym s.first) (sym s.last) c.digits-digits.ensures.some c.digits-digits.ensures.least c.digits-digits.ensures.most c.zeros-zeros.ensures.few c.zeros-zeros.ensures.last)
+    (ends_are c.args.groups.now s c.digits-digits.result c.zeros-zeros.result _ _ (sym s.first) (sym s.last) c.digits-digits.ensures.some
+    c.digits-digits.ensures.least c.digits-digits.ensures.most c.zeros-zeros.ensures.few c.zeros-zeros.ensures.last)
     (omega (arith, s.len, c.if-count-room.true))
 
 pub returns : goal.returns
 returns c =
     let s = shown c.args.groups.now c.requires.fit c.requires.some in
     narrow_if c.args.header c.args.groups.now s c.digits-digits.result c.zeros-zeros.result _
-    (ends_are c.args.groups.now s c.digits-digits.result c.zeros-zeros.result _ _ (sym s.first) (sym s.last) c.digits-digits.ensures.some c.digits-digits.ensures.least c.digits-digits.ensures.most c.zeros-zeros.ensures.few c.zeros-zeros.ensures.last)
+    (ends_are c.args.groups.now s c.digits-digits.result c.zeros-zeros.result _ _ (sym s.first) (sym s.last) c.digits-digits.ensures.some
+    c.digits-digits.ensures.least c.digits-digits.ensures.most c.zeros-zeros.ensures.few c.zeros-zeros.ensures.last)
     (omega (arith, s.len, c.if-count-room.false)) (omega (arith, s.len))

@@ -8,7 +8,8 @@ node_of-requires-clause-room c = omega (arith, c.piece-piece.ensures.short, ap l
 
 pub node_of-requires-clause-stands : goal.node_of-requires-clause-stands
 node_of-requires-clause-stands c =
-    subst IsJsonTree (lone_is_item c.args.item c.in-Some.found c.in-Some.ensures) (lone_json c.args.item c.in-Some.found c.in-Some.ensures c.in-Ok.ensures)
+    subst IsJsonTree (lone_is_item c.args.item c.in-Some.found c.in-Some.ensures)
+    (lone_json c.args.item c.in-Some.found c.in-Some.ensures c.in-Ok.ensures)
 
 pub returns-in-Ok-clause-read : goal.returns-in-Ok-clause-read
 returns-in-Ok-clause-read c = lone_node c.args.item c.in-Some.found c.node_of.result c.in-Some.ensures c.in-Ok.ensures c.node_of.ensures.tree

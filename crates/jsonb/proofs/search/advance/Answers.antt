@@ -7,19 +7,25 @@ use Rattle.jsonb.proofs.StepLaws.{popped, no_item, refused_item, took_scalar, to
 use Rattle.jsonb.proofs.search.advance.Goals as goal
 
 pub returns-then-not-is_empty : goal.returns-then-not-is_empty
-returns-then-not-is_empty c = past_end c.args.frame.left (place c.args.frame.start) c.if-frame-eq0.true (eqb-false _ 0 (sym c.if-not-is_empty.ensures))
+returns-then-not-is_empty c =
+    past_end c.args.frame.left (place c.args.frame.start) c.if-frame-eq0.true (eqb-false _ 0 (sym c.if-not-is_empty.ensures))
 
 pub returns-then-frame-eq0 : goal.returns-then-frame-eq0
-returns-then-frame-eq0 c = popped c.args.frame c.args.suspended.now.items c.pop.new.self.items c.if-frame-eq0.true (eqb-true _ 0 (sym c.if-not-is_empty.ensures)) c.pop.result _ _ c.pop.ensures.items c.pop.ensures.rest c.pop.ensures.cases
+returns-then-frame-eq0 c =
+    popped c.args.frame c.args.suspended.now.items c.pop.new.self.items c.if-frame-eq0.true (eqb-true _ 0 (sym c.if-not-is_empty.ensures))
+    c.pop.result _ _ c.pop.ensures.items c.pop.ensures.rest c.pop.ensures.cases
 
 pub returns-in_default : goal.returns-in_default
 returns-in_default c = no_item c.args.frame c.if-frame-eq0.false c.in_default.ensures
 
 pub returns-in_default-value_faults : goal.returns-in_default-value_faults
-returns-in_default-value_faults c = refused_item c.args.frame c.in-Some.item (place c.in-Some.start) c.if-frame-eq0.false c.in-Some.ensures c.in_default-value_faults.ensures.found
+returns-in_default-value_faults c =
+    refused_item c.args.frame c.in-Some.item (place c.in-Some.start) c.if-frame-eq0.false c.in-Some.ensures c.in_default-value_faults.ensures.found
 
 pub returns-in_default-inside : goal.returns-in_default-inside
-returns-in_default-inside c = took_scalar c.args.frame c.in-Some.item (place c.in-Some.start) c.if-frame-eq0.false c.in-Some.ensures c.in-Some-value_faults.found c.in-Some-value_faults.inside c.in-Some-value_faults.ensures.found c.args.suspended.now.items _ refl refl c.in_default-inside.is
+returns-in_default-inside c =
+    took_scalar c.args.frame c.in-Some.item (place c.in-Some.start) c.if-frame-eq0.false c.in-Some.ensures c.in-Some-value_faults.found
+    c.in-Some-value_faults.inside c.in-Some-value_faults.ensures.found c.args.suspended.now.items _ refl refl c.in_default-inside.is
 
 pub returns : goal.returns
 returns c =

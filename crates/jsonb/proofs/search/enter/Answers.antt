@@ -16,7 +16,8 @@ pub returns-in-Array-clause-weight : goal.returns-in-Array-clause-weight
 returns-in-Array-clause-weight c = omega (arith, opened_size c.args.bytes.now _ (sym c.in_ok-opened.ensures))
 
 pub returns-in-Array-clause-flat : goal.returns-in-Array-clause-flat
-returns-in-Array-clause-flat c = λ t is low. array_flat c.args.bytes.now t is low _ _ (opened_as c.args.bytes.now c.in-Array.is c.in_ok-opened.ensures)
+returns-in-Array-clause-flat c =
+    λ t is low. array_flat c.args.bytes.now t is low _ _ (opened_as c.args.bytes.now c.in-Array.is c.in_ok-opened.ensures)
 
 pub returns-in_err-found-in-Object-clause-found : goal.returns-in_err-found-in-Object-clause-found
 returns-in_err-found-in-Object-clause-found c =

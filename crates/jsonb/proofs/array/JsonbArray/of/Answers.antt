@@ -10,7 +10,8 @@ pub unreachable-requires : goal.unreachable-requires
 unreachable-requires c = opens c.args.bytes.now c.requires.json c.in_default.ensures.read
 
 pub invariant_of-result : goal.invariant_of-result
-invariant_of-result c = record { stands = array_stands c.args.bytes.now c.requires.json (opened_as c.args.bytes.now c.in-Array.is c.in-Some.ensures.read) }
+invariant_of-result c =
+    record { stands = array_stands c.args.bytes.now c.requires.json (opened_as c.args.bytes.now c.in-Array.is c.in-Some.ensures.read) }
 
 pub returns-in-Array-clause-tree : goal.returns-in-Array-clause-tree
 returns-in-Array-clause-tree c = array_is c.args.bytes.now c.requires.json (opened_as c.args.bytes.now c.in-Array.is c.in-Some.ensures.read)
@@ -24,7 +25,8 @@ unreachable-requires-in-Lone c = not_lone c.args.bytes.now c.requires.json (open
 pub returns-in-Array-clause-held : goal.returns-in-Array-clause-held
 returns-in-Array-clause-held c =
     let e = opened_as c.args.bytes.now c.in-Array.is c.in-Some.ensures.read in
-    array_holds c.args.begin c.in-Some.elements.payload c.args.bytes.now c.requires.json e (λ i. omega (arith, c.type_inv.bytes i)) c.in-Some.ensures.payload
+    array_holds c.args.begin c.in-Some.elements.payload c.args.bytes.now c.requires.json e (λ i. omega (arith, c.type_inv.bytes i))
+    c.in-Some.ensures.payload
 
 pub returns-in-Array-clause-trees : goal.returns-in-Array-clause-trees
 returns-in-Array-clause-trees c =

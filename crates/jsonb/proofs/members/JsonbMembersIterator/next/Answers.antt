@@ -44,7 +44,8 @@ returns-clause-steps c =
     let v = c.args.self.now.values in
     let rest = member_seats v.payload (v.count - 1) (place c.in-Some.keys) (place c.in-Some-next_item.start) in
     members_go_on c.args.self.now (omega arith) c.in-Some.ensures c.in-Some-next_item.ensures
-    ∙ ap (λ (k : List ℕ). (k, seat_at v.payload (place v.start) c.in-Some-next_item.item) ∷ rest) (sym (c.text_of-name.ensures ∙ c.piece.ensures.piece))
+    ∙ ap (λ (k : List ℕ). (k, seat_at v.payload (place v.start) c.in-Some-next_item.item) ∷ rest)
+    (sym (c.text_of-name.ensures ∙ c.piece.ensures.piece))
     ∙ ap (λ (s : Seat). (c.text_of-name.result.now, s) ∷ rest) (sym c.node-node.ensures.seat)
 
 pub returns-clause-goes : goal.returns-clause-goes

@@ -18,7 +18,8 @@ pub unreachable-requires : goal.unreachable-requires
 unreachable-requires g c = passes_keys c.args.key.now c.args.self.now c.in_ok-behind.ensures.read c.in_default.ensures.read
 
 pub unreachable-requires-in_default-next_item_counted : goal.unreachable-requires-in_default-next_item_counted
-unreachable-requires-in_default-next_item_counted g c = value_goes_on c.args.key.now c.args.self.now c.in_ok-behind.ensures.read c.in-Some.ensures.read c.in_default-next_item_counted.ensures.read
+unreachable-requires-in_default-next_item_counted g c =
+    value_goes_on c.args.key.now c.args.self.now c.in_ok-behind.ensures.read c.in-Some.ensures.read c.in_default-next_item_counted.ensures.read
 
 pub invariant_of-value : goal.invariant_of-value
 invariant_of-value g c =
@@ -29,10 +30,13 @@ pub node-requires-clause-first : goal.node-requires-clause-first
 node-requires-clause-first g c = ap (option_map (λ x. x.0)) (sym c.in-Some-next_item_counted.ensures.read)
 
 pub node-requires-clause-stands : goal.node-requires-clause-stands
-node-requires-clause-stands g c = value_stands c.args.key.now c.args.self.now c.in_ok-behind.ensures.read c.in-Some.ensures.read c.in-Some-next_item_counted.ensures.read
+node-requires-clause-stands g c =
+    value_stands c.args.key.now c.args.self.now c.in_ok-behind.ensures.read c.in-Some.ensures.read c.in-Some-next_item_counted.ensures.read
 
 pub returns-clause-found : goal.returns-clause-found
-returns-clause-found g c = c.node.ensures.tree ∙ value_is c.args.key.now c.args.self.now c.in_ok-behind.ensures.read c.in-Some.ensures.read c.in-Some-next_item_counted.ensures.read
+returns-clause-found g c =
+    c.node.ensures.tree
+    ∙ value_is c.args.key.now c.args.self.now c.in_ok-behind.ensures.read c.in-Some.ensures.read c.in-Some-next_item_counted.ensures.read
 
 pub returns-clause-seat : goal.returns-clause-seat
 returns-clause-seat g c =

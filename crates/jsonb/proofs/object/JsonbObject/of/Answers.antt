@@ -8,7 +8,8 @@ pub unreachable-requires : goal.unreachable-requires
 unreachable-requires c = opens c.args.bytes.now c.requires.json c.in_default.ensures.read
 
 pub invariant_of-result : goal.invariant_of-result
-invariant_of-result c = record { stands = object_stands c.args.bytes.now c.requires.json (opened_as c.args.bytes.now c.in-Object.is c.in-Some.ensures.read) }
+invariant_of-result c =
+    record { stands = object_stands c.args.bytes.now c.requires.json (opened_as c.args.bytes.now c.in-Object.is c.in-Some.ensures.read) }
 
 pub returns-in-Object-clause-tree : goal.returns-in-Object-clause-tree
 returns-in-Object-clause-tree c = object_is c.args.bytes.now c.requires.json (opened_as c.args.bytes.now c.in-Object.is c.in-Some.ensures.read)
@@ -22,7 +23,8 @@ unreachable-requires-in-Lone c = not_lone c.args.bytes.now c.requires.json (open
 pub returns-in-Object-clause-held : goal.returns-in-Object-clause-held
 returns-in-Object-clause-held c =
     let e = opened_as c.args.bytes.now c.in-Object.is c.in-Some.ensures.read in
-    object_holds c.args.begin c.in-Some.keys.payload c.args.bytes.now c.requires.json e (λ i. omega (arith, c.type_inv.bytes i)) c.in-Some.ensures.payload
+    object_holds c.args.begin c.in-Some.keys.payload c.args.bytes.now c.requires.json e (λ i. omega (arith, c.type_inv.bytes i))
+    c.in-Some.ensures.payload
 
 pub returns-in-Object-clause-pairs : goal.returns-in-Object-clause-pairs
 returns-in-Object-clause-pairs c =

@@ -13,8 +13,8 @@ use Rattle.hex.proofs.Pairs.{cons_byte, decode_pairs-ok_pair}
 use Rattle.hex.proofs.HexLemmas.{decode_of-err, decode_of-even, decode_of-odd, decode_of-ok, decode_of-same}
 use Rattle.jsonb.specs.HexText.{IsFirstNotHex, IsHexPair, IsHexText}
 
-abbrev IsDigit : ℕ → Type 0
-IsDigit c = is_hex_digit c ≡ true
+abbrev IsHexDigit : ℕ → Type 0
+IsHexDigit c = is_hex_digit c ≡ true
 
 pub even_hex : (text bytes : List ℕ) → IsHexText text bytes → length text % 2 ≡ 0
 even_hex [] [] h = refl
@@ -38,7 +38,7 @@ digit_reads None h = cc h
 digit_small : (c v : ℕ) → hex_digit_value c ≡ Some v → v < 16
 digit_small c v h = grind (arith)
 
-pair_reads : (x y : ℕ) → IsDigit x → IsDigit y → (byte : ℕ) × IsHexPair x y byte
+pair_reads : (x y : ℕ) → IsHexDigit x → IsHexDigit y → (byte : ℕ) × IsHexPair x y byte
 pair_reads x y hx hy =
     let high = digit_reads (hex_digit_value x) hx in
     let low = digit_reads (hex_digit_value y) hy in
@@ -67,9 +67,9 @@ digits_read : (text : List ℕ) → length text % 2 ≡ 0 → AllPass is_hex_dig
 digits_read [] even h = ([], tt)
 digits_read (x ∷ []) even h = absurd (omega arith)
 digits_read (x ∷ y ∷ text) even h =
-    let after = All-tail IsDigit x (y ∷ text) h in
-    let byte = pair_reads x y (All-head IsDigit x (y ∷ text) h) (All-head IsDigit y text after) in
-    let rest = digits_read text (omega arith) (All-tail IsDigit y text after) in
+    let after = All-tail IsHexDigit x (y ∷ text) h in
+    let byte = pair_reads x y (All-head IsHexDigit x (y ∷ text) h) (All-head IsHexDigit y text after) in
+    let rest = digits_read text (omega arith) (All-tail IsHexDigit y text after) in
     (byte.0 ∷ rest.0, (byte.1, rest.1))
 
 pub decoded_hex : (text bytes : List ℕ) → decode_of text ≡ Ok bytes → IsHexText text bytes
@@ -114,17 +114,17 @@ tells text error (inr e) = refused text error e
 -- a text of digits has no first byte that is no digit
 pub all_digits : (text : List ℕ) (place : ℕ) → AllPass is_hex_digit text → place < length text → is_hex_digit (slice_index text place) ≡ false → ⊥
 all_digits [] place h within here = absurd (omega arith)
-all_digits (x ∷ text) zero h within here = absurd (false≢true (sym here ∙ All-head IsDigit x text h))
-all_digits (x ∷ text) (suc place) h within here = all_digits text place (All-tail IsDigit x text h) (omega arith) here
+all_digits (x ∷ text) zero h within here = absurd (false≢true (sym here ∙ All-head IsHexDigit x text h))
+all_digits (x ∷ text) (suc place) h within here = all_digits text place (All-tail IsHexDigit x text h) (omega arith) here
 
 first_once : (text : List ℕ) (i j : ℕ) → i < length text → AllPass is_hex_digit (take i text) → is_hex_digit (slice_index text i) ≡ false
     → j < length text → AllPass is_hex_digit (take j text) → is_hex_digit (slice_index text j) ≡ false → i ≡ j
 first_once [] i j lt h e lt' h' e' = absurd (omega arith)
 first_once (x ∷ text) zero zero lt h e lt' h' e' = refl
-first_once (x ∷ text) zero (suc j) lt h e lt' h' e' = absurd (false≢true (sym e ∙ All-head IsDigit x (take j text) h'))
-first_once (x ∷ text) (suc i) zero lt h e lt' h' e' = absurd (false≢true (sym e' ∙ All-head IsDigit x (take i text) h))
+first_once (x ∷ text) zero (suc j) lt h e lt' h' e' = absurd (false≢true (sym e ∙ All-head IsHexDigit x (take j text) h'))
+first_once (x ∷ text) (suc i) zero lt h e lt' h' e' = absurd (false≢true (sym e' ∙ All-head IsHexDigit x (take i text) h))
 first_once (x ∷ text) (suc i) (suc j) lt h e lt' h' e' =
-    ap suc (first_once text i j (omega arith) (All-tail IsDigit x (take i text) h) e (omega arith) (All-tail IsDigit x (take j text) h') e')
+    ap suc (first_once text i j (omega arith) (All-tail IsHexDigit x (take i text) h) e (omega arith) (All-tail IsHexDigit x (take j text) h') e')
 
 pub one_first : (text : List ℕ) (i j : ℕ) → IsFirstNotHex text i → IsFirstNotHex text j → i ≡ j
 one_first text i j f g = first_once text i j f.within f.digits f.here g.within g.digits g.here
@@ -136,12 +136,12 @@ hex_or_not text bytes place h first =
 
 -- ---- hex texts are ASCII
 
-digit_ascii : (c : ℕ) → IsDigit c → c < 128
+digit_ascii : (c : ℕ) → IsHexDigit c → c < 128
 digit_ascii c h = grind (arith)
 
 ascii_digits : (text : List ℕ) → AllPass is_hex_digit text → IsAscii text
 ascii_digits [] h = IsAscii-nil
-ascii_digits (x ∷ text) h = IsAscii-cons x text (digit_ascii x (All-head IsDigit x text h)) (ascii_digits text (All-tail IsDigit x text h))
+ascii_digits (x ∷ text) h = IsAscii-cons x text (digit_ascii x (All-head IsHexDigit x text h)) (ascii_digits text (All-tail IsHexDigit x text h))
 
 pub IsUtf8-from_hex : (text bytes : List ℕ) → IsHexText text bytes → IsUtf8 text
 IsUtf8-from_hex text bytes h = IsUtf8-from_ascii text (ascii_digits text ((decode_of-ok text bytes (hex_decodes text bytes h)).1))

@@ -30,8 +30,10 @@ impl<'a> JsonbArray<'a> {
         requires json { IsJsonTree (read bytes.now) }
         requires room { begin + length bytes.now < 2 ^ 64 }
         ensures tree { option_map array_tree result ≡ if_array (or_null (read bytes.now)) }
-        ensures held { IfSome result (λ a. AreHeld (record { at = begin; kind = 5; bytes = bytes.now }) (array_seats a)) }
-        ensures trees { IfSome result (λ a. map seat_tree (array_seats a) ≡ elements_of (array_tree a)) }
+        ensures held { IfSome result
+            (λ a. AreHeld (record { at = begin; kind = 5; bytes = bytes.now }) (array_seats a)) }
+        ensures trees { IfSome result
+            (λ a. map seat_tree (array_seats a) ≡ elements_of (array_tree a)) }
     {
         let Some((form, elements)) = Items::of(begin, bytes) else {
             unreachable!()
@@ -69,7 +71,8 @@ impl<'a> Array<'a> for JsonbArray<'a> {
 
     fn elements(&self) -> Cursor<'a>
         ensures ends { IsFinite (item_count seats_left result) }
-        ensures gives { Gives (YieldsFirstBy node_seat seats_left) node_tree result (elements_of (array_tree self.now)) }
+        ensures gives { Gives (YieldsFirstBy node_seat seats_left) node_tree result
+            (elements_of (array_tree self.now)) }
         ensures seats { seats_left result ≡ array_seats self.now }
         ensures trees { map seat_tree (array_seats self.now) ≡ elements_of (array_tree self.now) }
     {

@@ -43,7 +43,8 @@ impl JsonbBuffer {
     /// The node of the string. It borrows the buffer, and nothing is validated again.
     pub(crate) fn node(&self) -> JsonbNode<'_>
         ensures tree { node_tree result ≡ scalar (string (buffer_bytes self.now)) }
-        ensures seat { node_seat result ≡ record { at = 0; kind = 0; bytes = buffer_bytes self.now } }
+        ensures seat { node_seat result
+            ≡ record { at = 0; kind = 0; bytes = buffer_bytes self.now } }
     {
         string_node(self.text.as_str())
     }

@@ -33,7 +33,8 @@ impl<'a> Items<'a> {
     pub fn of(begin: usize, bytes: &'a [u8]) -> Option<(Form, Items<'a>)>
         requires { begin + length bytes.now < 2 ^ 64 }
         ensures read { option_map form_then_place result ≡ opened bytes.entry.now }
-        ensures payload { IfSome result (λ r. r.1.payload ≡ begin + 4 + length r.1.start.words.now) }
+        ensures payload { IfSome result
+            (λ r. r.1.payload ≡ begin + 4 + length r.1.start.words.now) }
     {
         let opened = open(bytes)?;
         let items = Items {
@@ -49,7 +50,8 @@ impl<'a> Items<'a> {
         requires first { option_map (λ x. x.0) (item_at (place self.now.start)) ≡ Some item }
         requires stands { IsJsonTree (item_tree self.now.start.at item) }
         ensures tree { Some (node_tree result) ≡ item_tree self.now.start.at item.entry }
-        ensures seat { node_seat result ≡ seat_at self.now.payload (place self.now.start) item.entry }
+        ensures seat { node_seat result
+            ≡ seat_at self.now.payload (place self.now.start) item.entry }
     {
         let word_begin = self.payload - self.start.words.len();
         node_of(

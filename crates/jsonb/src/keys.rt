@@ -32,14 +32,16 @@ fn rises(before: Option<&[u8]>, key: &[u8]) -> bool
 
 /// Whether an item is a key that comes after the one before it, if there is one.
 fn is_key(before: Option<&[u8]>, item: &Item<'_>) -> bool
-    ensures { result ≡ (item.now.kind == 0 && follows (option_map (λ x. x.now) before.entry) item.now.piece) }
+    ensures { result ≡ (item.now.kind == 0
+        && follows (option_map (λ x. x.now) before.entry) item.now.piece) }
 {
     item.is_string() && rises(before, item.piece())
 }
 
 /// What is found in so many keys, and where they end. None where one of them is no key or does not rise.
 pub fn key_faults(count: usize, start: Place<'_>) -> Option<(Found, Place<'_>)>
-    ensures { option_map found_then_place result ≡ keys_after nothing (keys_at count None (place start.entry)) }
+    ensures { option_map found_then_place result
+        ≡ keys_after nothing (keys_at count None (place start.entry)) }
 {
     let mut current = start;
     let mut found = Found::NOTHING;

@@ -65,7 +65,8 @@ fn pass_counted<'a, L: Ledger>(
 impl<'a> JsonbObject<'a> {
     /// The value under a key, if there is one, and a step for each entry word that is read. It takes no memory.
     pub fn get_counted<L: Ledger>(&self, key: &[u8], steps: &mut Steps<L>) -> Option<JsonbNode<'a>>
-        ensures found { option_map node_tree result ≡ lookup key.now (pairs_of (object_tree self.now)) }
+        ensures found { option_map node_tree result
+            ≡ lookup key.now (pairs_of (object_tree self.now)) }
         ensures seat { option_map node_seat result ≡ lookup key.now (object_seats self.now) }
         ensures rise { steps.old ≤ steps.new }
     {
@@ -94,7 +95,8 @@ pub fn get_in<'a, L: Ledger>(
     requires name { blank.name ≡ L.name }
     requires parts { blank.parts ≡ L.parts }
     requires some { 0 < blank.parts }
-    ensures found { option_map node_tree result ≡ lookup key.now (pairs_of (object_tree object.now)) }
+    ensures found { option_map node_tree result
+        ≡ lookup key.now (pairs_of (object_tree object.now)) }
     ensures seat { option_map node_seat result ≡ lookup key.now (object_seats object.now) }
 {
     let mut steps = Steps::<L>::new(blank);

@@ -58,8 +58,10 @@ impl<'a> Node<'a> for JsonbNode<'a> {
     #[tactic(auto, using(crate::proofs::KindLaws::no_object, crate::proofs::KindLaws::container_stands))]
     fn as_object(&self) -> Option<JsonbObject<'a>>
         ensures tree { option_map object_tree result ≡ if_object (node_tree self.now) }
-        ensures held { IfSome result (λ o. AreHeld (node_seat self.now) (values_of (object_seats o))) }
-        ensures pairs { IfSome result (λ o. map member_tree (object_seats o) ≡ pairs_of (object_tree o)) }
+        ensures held { IfSome result
+            (λ o. AreHeld (node_seat self.now) (values_of (object_seats o))) }
+        ensures pairs { IfSome result
+            (λ o. map member_tree (object_seats o) ≡ pairs_of (object_tree o)) }
     {
         match self.kind {
             Kind::Container => JsonbObject::of(self.offset, self.bytes),
@@ -71,7 +73,8 @@ impl<'a> Node<'a> for JsonbNode<'a> {
     fn as_array(&self) -> Option<JsonbArray<'a>>
         ensures tree { option_map array_tree result ≡ if_array (node_tree self.now) }
         ensures held { IfSome result (λ a. AreHeld (node_seat self.now) (array_seats a)) }
-        ensures trees { IfSome result (λ a. map seat_tree (array_seats a) ≡ elements_of (array_tree a)) }
+        ensures trees { IfSome result
+            (λ a. map seat_tree (array_seats a) ≡ elements_of (array_tree a)) }
     {
         match self.kind {
             Kind::Container => JsonbArray::of(self.offset, self.bytes),
@@ -158,7 +161,12 @@ impl<'a> Node<'a> for JsonbNode<'a> {
     /// root have the same identity exactly where they are the same place. These numbers are this project's own.
     fn identity(&self) -> Option<NodeIdentity>
         ensures identity { result ≡ some_identity self.now }
-        ensures pair { option_map pair result ≡ Some ((node_seat self.now).at, (node_seat self.now).kind * 2 ^ 28 + length (node_seat self.now).bytes % 2 ^ 28) }
+        ensures pair { option_map pair result
+            ≡ Some (
+              (node_seat self.now).at,
+              (node_seat self.now).kind * 2 ^ 28 + length
+                  (node_seat self.now).bytes % 2 ^ 28,
+            ) }
     {
         Some(NodeIdentity::tagged(self.offset, tag(self.kind, self.bytes.len())))
     }

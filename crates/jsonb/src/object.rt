@@ -35,8 +35,11 @@ impl<'a> JsonbObject<'a> {
         requires json { IsJsonTree (read bytes.now) }
         requires room { begin + length bytes.now < 2 ^ 64 }
         ensures tree { option_map object_tree result ≡ if_object (or_null (read bytes.now)) }
-        ensures held { IfSome result (λ o. AreHeld (record { at = begin; kind = 5; bytes = bytes.now }) (values_of (object_seats o))) }
-        ensures pairs { IfSome result (λ o. map member_tree (object_seats o) ≡ pairs_of (object_tree o)) }
+        ensures held { IfSome result
+            (λ o. AreHeld (record { at = begin; kind = 5; bytes = bytes.now })
+            (values_of (object_seats o))) }
+        ensures pairs { IfSome result
+            (λ o. map member_tree (object_seats o) ≡ pairs_of (object_tree o)) }
     {
         let Some((form, keys)) = Items::of(begin, bytes) else {
             unreachable!()
@@ -84,7 +87,8 @@ impl<'a> Object<'a> for JsonbObject<'a> {
 
     fn members(&self) -> JsonbMembers<'a>
         ensures ends { IsFinite (item_count members_left result) }
-        ensures gives { Gives (YieldsFirstBy member_seat members_left) (λ p. (p.0.now, node_tree p.1)) result (pairs_of (object_tree self.now)) }
+        ensures gives { Gives (YieldsFirstBy member_seat members_left)
+            (λ p. (p.0.now, node_tree p.1)) result (pairs_of (object_tree self.now)) }
         ensures seats { members_left result ≡ object_seats self.now }
         ensures pairs { map member_tree (object_seats self.now) ≡ pairs_of (object_tree self.now) }
         ensures rise { rises (map (λ p. p.0) (pairs_of (object_tree self.now))) ≡ true }
@@ -104,14 +108,17 @@ impl<'a> Object<'a> for JsonbObject<'a> {
     }
 
     fn get(&self, key: &JsonbKey) -> Option<JsonbNode<'a>>
-        ensures found { option_map node_tree result ≡ lookup (key_name key.now) (pairs_of (object_tree self.now)) }
-        ensures seat { option_map node_seat result ≡ lookup (key_name key.now) (object_seats self.now) }
+        ensures found { option_map node_tree result
+            ≡ lookup (key_name key.now) (pairs_of (object_tree self.now)) }
+        ensures seat { option_map node_seat result
+            ≡ lookup (key_name key.now) (object_seats self.now) }
     {
         get_in::<Brand>(self, key.bytes(), Blank::new(1))
     }
 
     fn get_named(&self, name: &str) -> Option<JsonbNode<'a>>
-        ensures found { option_map node_tree result ≡ lookup name.now (pairs_of (object_tree self.now)) }
+        ensures found { option_map node_tree result
+            ≡ lookup name.now (pairs_of (object_tree self.now)) }
         ensures seat { option_map node_seat result ≡ lookup name.now (object_seats self.now) }
     {
         get_in::<Brand>(self, name.as_bytes(), Blank::new(1))

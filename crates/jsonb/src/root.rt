@@ -84,9 +84,11 @@ impl Jsonb {
     ///
     /// It looks at each byte a fixed number of times, and takes memory for the nesting alone.
     pub fn root(alloc: Global, container: &[u8]) -> Result<JsonbNode<'_>, JsonbError>
-        ensures read { (result ≡ Err JsonbError.OutOfMemory) ⊎ IsRead container.now (read_tree result) }
+        ensures read { (result ≡ Err JsonbError.OutOfMemory)
+            ⊎ IsRead container.now (read_tree result) }
         ensures seat { IfOk result (λ n. IsRoot container.now (node_seat n)) }
-        ensures free { (t : Tree) → Stands container.now t → nest t ≤ 1 → result ≡ Err JsonbError.OutOfMemory → ⊥ }
+        ensures free { (t : Tree) → Stands container.now t → nest t ≤ 1 → result
+            ≡ Err JsonbError.OutOfMemory → ⊥ }
     {
         match lone(container) {
             Some(item) => root_scalar(item),
@@ -122,7 +124,8 @@ impl<'a> Json<'a> for Jsonb {
         string: &str,
     ) -> Result<JsonbNode<'a>, OutOfMemory>
         ensures tree { IfOk result (λ n. node_tree n ≡ scalar (string_scalar string.now)) }
-        ensures seat { IfOk result (λ n. node_seat n ≡ record { at = 0; kind = 0; bytes = string.now }) }
+        ensures seat { IfOk result
+            (λ n. node_seat n ≡ record { at = 0; kind = 0; bytes = string.now }) }
     {
         buffer.put(alloc, string)?;
         Ok(buffer.node())

@@ -26,7 +26,8 @@ use std::alloc::Global;
 fn enter(bytes: &[u8]) -> Option<(Found, Frame<'_>)>
     ensures found { container_found bytes.now ≡ entered result }
     ensures weight { IfSome result (λ r. frame_weight r.1 ≤ length bytes.now) }
-    ensures flat { IfSome result (λ r. (t : Tree) → read bytes.now ≡ Some t → nest t ≤ 1 → HoldsScalars r.1) }
+    ensures flat { IfSome result
+        (λ r. (t : Tree) → read bytes.now ≡ Some t → nest t ≤ 1 → HoldsScalars r.1) }
 {
     let opened = open(bytes)?;
     let left = opened.count;
@@ -58,9 +59,13 @@ fn value_faults<'a>(at: usize, item: Item<'a>) -> Option<(Found, Option<Frame<'a
 
 /// Puts off what is left of a container, unless nothing is.
 fn suspend<'a>(frame: Frame<'a>, suspended: &mut Vec<Frame<'a>>) -> Result<(), JsonbError>
-    ensures found { OnOk result (frames_found suspended.new.items ≡ combine (frame_found frame.entry) (frames_found suspended.old.items)) }
+    ensures found { OnOk result
+        (frames_found suspended.new.items
+        ≡ combine (frame_found frame.entry) (frames_found suspended.old.items)) }
     ensures cause { IfErr result (SuspendCause (frame_found frame.entry)) }
-    ensures weight { OnOk result (frames_weight suspended.new.items ≤ frame_weight frame.entry + frames_weight suspended.old.items) }
+    ensures weight { OnOk result
+        (frames_weight suspended.new.items
+        ≤ frame_weight frame.entry + frames_weight suspended.old.items) }
 {
     if frame.left == 0 {
         if frame.start.rest.is_empty() {

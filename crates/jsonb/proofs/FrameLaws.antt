@@ -206,12 +206,17 @@ next_read n p q x r e h =
     let c = bind_some (elements_by read n q) (λ ts. Some (element b.0 ts.0, ts.1)) r b.2 in
     record { tree = b.0; more = c.0; reads = b.1; goes_on = c.1; whole = some_is (element b.0 c.0.0, c.0.1) r c.2 }
 
-module _ (n : ℕ) (p q : Place) (x : Item) (some : 0 < n) (e : Some (x, q) ≡ item_at p) (g : Found) (there : rest_found n p ≡ Some g) (flat : Flat n p) where
+-- a value is left of n from p on: x, with q behind it
+pub record Left (n : ℕ) (p : Place) (x : Item) (q : Place) : Type 0 where
+  pub some : 0 < n
+  pub reads : Some (x, q) ≡ item_at p
+
+module _ {n : ℕ} {p q : Place} {x : Item} (left : Left n p x q) (g : Found) (there : rest_found n p ≡ Some g) (flat : Flat n p) where
   next_flat : (r : Elements × Place) × Next (n - 1) p x q r × (nest_elements r.0 ≡ 0)
   next_flat =
       let r = rest_read n p g there in
-      let h : elements_by read (suc (n - 1)) p ≡ Some r.0 = ap (λ (k : ℕ). elements_by read k p) (less_one n some) ∙ r.1 in
-      (r.0, next_read (n - 1) p q x r.0 e h, flat r.0 r.1)
+      let h : elements_by read (suc (n - 1)) p ≡ Some r.0 = ap (λ (k : ℕ). elements_by read k p) (less_one n left.some) ∙ r.1 in
+      (r.0, next_read (n - 1) p q x r.0 left.reads h, flat r.0 r.1)
 
   -- what is left is flat too
   pub stays_flat : Flat (n - 1) q

@@ -161,13 +161,21 @@ narrow_if h b s k z m e le n =
       | inr le ↦ le-leb (a - z) 38 (omega arith) ∙ sym (le-leb a (38 + z) le)
     ]
 
-pub ends_are : (b : List ℕ) (s : Shown b) (k z f l : ℕ) → f ≡ s.g → l ≡ get_or (s.g ∷ s.gs) (length (s.g ∷ s.gs) - 1) 1 → 1 ≤ k → 10 ^ (k - 1) ≤ f
-    → f < 10 ^ k → z ≤ 3 → (q : ℕ) × (l ≡ q * 10 ^ z) × (q % 10 ≡ 0 → ⊥) → Ends s.g s.gs k z
-ends_are b s k z f l ef el some least most few last = record {
+-- a first group of k digits, and a last one that ends with z zeros
+pub record Counted (f l k z : ℕ) : Type 0 where
+  pub some : 1 ≤ k
+  pub least : 10 ^ (k - 1) ≤ f
+  pub most : f < 10 ^ k
+  pub few : z ≤ 3
+  pub last : (q : ℕ) × (l ≡ q * 10 ^ z) × (q % 10 ≡ 0 → ⊥)
+
+pub ends_are : {b : List ℕ} (s : Shown b) {k z f l : ℕ} → s.g ≡ f → get_or (s.g ∷ s.gs) (length (s.g ∷ s.gs) - 1) 1 ≡ l → Counted f l k z
+    → Ends s.g s.gs k z
+ends_are s {k = k} ef el c = record {
   below = s.below;
-  some = some;
-  at_least = subst (λ (x : ℕ). 10 ^ (k - 1) ≤ x) ef least;
-  at_most = subst (λ (x : ℕ). x < 10 ^ k) ef most;
-  few = few;
-  last = (last.0, sym el ∙ last.1, last.2);
+  some = c.some;
+  at_least = subst (λ (x : ℕ). 10 ^ (k - 1) ≤ x) (sym ef) c.least;
+  at_most = subst (λ (x : ℕ). x < 10 ^ k) (sym ef) c.most;
+  few = c.few;
+  last = (c.last.0, el ∙ c.last.1, c.last.2);
 }

@@ -108,9 +108,9 @@ clean_member k t ms h =
 same_end : (l l' : List (List ℕ)) (b b' : Place) → some {A = List (List ℕ) × Place} (l, b) ≡ some (l', b') → b ≡ b'
 same_end l l' b b' e = ap (λ (o : List (List ℕ) × Place). o.1) (some_is (l, b) (l', b') e)
 
-same_members : (l l' : List (List ℕ)) (b b' : Place) (ts ts' : Elements) (e e' : Place) → some {A = List (List ℕ) × Place} (l, b) ≡ some (l', b')
+same_members : {l l' : List (List ℕ)} {b b' : Place} {ts ts' : Elements} {e e' : Place} → some {A = List (List ℕ) × Place} (l, b) ≡ some (l', b')
     → some {A = Elements × Place} (ts, e) ≡ some (ts', e') → members l' ts' ≡ members l ts
-same_members l l' b b' ts ts' e e' f g =
+same_members {l = l} {l' = l'} {b = b} {b' = b'} {ts = ts} {ts' = ts'} {e = e} {e' = e'} f g =
     ap (λ (a : List (List ℕ)). members a ts') (ap (λ (o : List (List ℕ) × Place). o.0) (some_is (l', b') (l, b) (sym f)))
     ∙ ap (λ (a : Elements). members l a) (ap (λ (o : Elements × Place). o.0) (some_is (ts', e') (ts, e) (sym g)))
 
@@ -125,7 +125,7 @@ first {c = c} {n = n} {p = p} {q = q} w =
     let us = bind_some (elements_by read n y.0.1) (λ ts. some (element t.0 ts.0, ts.1)) all t.2 in
     let behind : skip w.passed l.0.1 ≡ Some q = ap (skip w.passed) (same_end (x.0.0.piece ∷ l.0.0) w.names l.0.1 w.behind l.2) ∙ w.on in
     let all_is : members_of w ≡ member x.0.0.piece t.0 (members l.0.0 us.0.0) =
-    same_members (x.0.0.piece ∷ l.0.0) w.names l.0.1 w.behind (element t.0 us.0.0) w.trees us.0.1 w.end l.2 us.2 in
+    same_members l.2 us.2 in
     let clean = clean_member x.0.0.piece t.0 (members l.0.0 us.0.0) (subst (λ (ms : Members). is_clean (members_found ms) ≡ true) all_is w.clean) in
     let less : c - 1 ≡ n + w.passed = omega (arith, w.total) in
     record {
@@ -163,7 +163,7 @@ one_key k s {c = c} {n = n} {p = p} {q = q} f rest r er =
     let on : behind_key k (suc n) p ≡ cond (bytes_eq k f.key.piece) (Some f.keys) (behind_key k n f.keys) = rw f.key_is refl in
     subst (λ (ms : Members). Outcome s c r (lookup k (pairs_in ms)) (lookup k (member_seats s (suc n) p q))) (sym f.all_is)
     (subst (λ (ss : List (List ℕ × Seat)). Outcome s c r (lookup k (pairs_in (member f.key.piece f.tree (members_of f.rest)))) (lookup k ss))
-    (sym (members_step s n p f.keys q f.values f.key f.value f.key_is f.value_is))
+    (sym (members_step s n p q f.key_is f.value_is))
     (go (bytes_eq k f.key.piece) r (sym on ∙ er)))
   where
     here : IsFound s c f.keys (Some f.tree) (Some (seat_at s q f.value))

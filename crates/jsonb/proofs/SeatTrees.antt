@@ -79,10 +79,10 @@ element_seats s (suc n) p json =
 
 -- ---- members
 
-pub members_step : (s n : ℕ) (p p' q q' : Place) (x y : Item) → item_at p ≡ Some (x, p') → item_at q ≡ Some (y, q')
+pub members_step : (s n : ℕ) (p q : Place) {p' q' : Place} {x y : Item} → item_at p ≡ Some (x, p') → item_at q ≡ Some (y, q')
     → member_seats s (suc n) p q ≡ (x.piece, seat_at s q y) ∷ member_seats s n p' q'
 unfolding member_seats
-members_step s n p p' q q' x y e f = rw (e, f) refl
+members_step s n p q e f = rw (e, f) refl
 
 -- the first member that is left, and the others
 pub members_go_on : (m : JsonbMembers) {x y : Item} {p q : Place} → 0 < m.values.count → Some (x, p) ≡ item_at (place m.keys)
@@ -90,7 +90,7 @@ pub members_go_on : (m : JsonbMembers) {x y : Item} {p q : Place} → 0 < m.valu
     → members_left m ≡ (x.piece, seat_at m.values.payload (place m.values.start) y) ∷ member_seats m.values.payload (m.values.count - 1) p q
 members_go_on m {x = x} {y = y} {p = p} {q = q} lt e f =
     ap (λ (k : ℕ). member_seats m.values.payload k (place m.keys) (place m.values.start)) (sym (less_one m.values.count lt))
-    ∙ members_step m.values.payload (m.values.count - 1) (place m.keys) p (place m.values.start) q x y (sym e) (sym f)
+    ∙ members_step m.values.payload (m.values.count - 1) (place m.keys) (place m.values.start) (sym e) (sym f)
 
 pub no_members_left : (m : JsonbMembers) → m.values.count ≡ 0 → members_left m ≡ []
 unfolding member_seats
@@ -105,7 +105,7 @@ member_trees s zero p q json = no_member_trees s p q
 member_trees s (suc n) p q json =
     let x = member_there n p q json in
     let next = next_member n p x.0.1 q x.2.0.1 x.0.0 x.2.0.0 x.1 x.2.1 json in
-    ap (map member_tree) (members_step s n p x.0.1 q x.2.0.1 x.0.0 x.2.0.0 x.1 x.2.1)
+    ap (map member_tree) (members_step s n p q x.1 x.2.1)
     ∙ ap (λ (t : Tree). (x.0.0.piece, t) ∷ map member_tree (member_seats s n x.0.1 x.2.0.1)) (seat_tree_is s q x.2.0.0 next.value)
     ∙ ap (λ (ts : List (List ℕ × Tree)). (x.0.0.piece, or_null (item_tree q.at x.2.0.0)) ∷ ts) (member_trees s n x.0.1 x.2.0.1 next.more)
     ∙ sym next.pairs

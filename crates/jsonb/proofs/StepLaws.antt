@@ -16,7 +16,7 @@ use Rattle.jsonb.specs.Found.{nothing, both, tree_found}
 use Rattle.jsonb.specs.inner.Frames.{combine, container_found, rest_found, frame_found, frames_found, next_found, HoldsScalars, frames_weight, next_weight, IsInside, SuspendCause, StaysFlat, Moves, StepCause, Searched}
 use Rattle.jsonb.specs.inner.Views.{place}
 use Rattle.jsonb.proofs.FoundLaws.{combine_none, combine_assoc, combine_nothing, nothing_combine, combine_some}
-use Rattle.jsonb.proofs.FrameLaws.{at_end, rest_none, rest_some, stays_flat, no_inside, put_off}
+use Rattle.jsonb.proofs.FrameLaws.{at_end, rest_none, rest_some, Left, stays_flat, no_inside, put_off}
 
 -- ---- a frame of which nothing is left
 
@@ -47,62 +47,91 @@ module _ (frame : Frame) (old new : List Frame) (none : frame.left ≡ 0) (over 
 
 -- ---- a frame of which something is left
 
-module _ (frame : Frame) (x : Item) (q : Place) (some : frame.left ≡ 0 → ⊥) (reads : Some (x, q) ≡ item_at (place frame.start)) where
+-- the next value of a frame: an item, and the place behind it
+pub record NextItem (frame : Frame) : Type 0 where
+  pub item : Item
+  pub behind : Place
+  pub some : frame.left ≡ 0 → ⊥
+  pub reads : Some (item, behind) ≡ item_at (place frame.start)
+
+-- what is found in it, and the frame inside, if it is a container
+pub record NextValue {frame : Frame} (next : NextItem frame) : Type 0 where
+  pub found : Found
+  pub inner : Option Frame
+  pub is : option_map tree_found (item_tree (place frame.start).at next.item) ≡ combine (Some found) (next_found inner)
+
+module _ {frame : Frame} (next : NextItem frame) where
+  abbrev here : Place
+  here = place frame.start
+
+  abbrev others : Option Found
+  others = rest_found (frame.left - 1) next.behind
+
   more : 0 < frame.left
-  more = omega arith
+  more = let some = next.some in omega arith
 
-  size_left : size q + length x.piece + 4 ≤ size (place frame.start)
-  size_left = item_size (place frame.start) q x (sym reads)
+  left : Left frame.left here next.item next.behind
+  left = record { some = more; reads = next.reads }
 
-  no_inside_there : (g : Found) → frame_found frame ≡ Some g → HoldsScalars frame → IsInside (place frame.start).at x → ⊥
-  no_inside_there g there flat inside = no_inside frame.left (place frame.start) q x more reads g there flat inside
+  size_left : size next.behind + length next.item.piece + 4 ≤ size here
+  size_left = item_size here next.behind next.item (sym next.reads)
 
-  module _ (f : Found) (inner : Option Frame) (is : option_map tree_found (item_tree (place frame.start).at x) ≡ combine (Some f) (next_found inner)) where
-    value_is : frame_found frame ≡ combine (Some f) (combine (next_found inner) (rest_found (frame.left - 1) q))
+  no_inside_there : (g : Found) → frame_found frame ≡ Some g → HoldsScalars frame → IsInside here.at next.item → ⊥
+  no_inside_there g there flat inside = no_inside left g there flat inside
+
+  pub refused_item : option_map tree_found (item_tree (place frame.start).at next.item) ≡ None → frame_found frame ≡ None
+  refused_item e =
+      rest_some frame.left here more next.item next.behind next.reads
+      ∙ ap (λ (a : Option Found). combine a others) e
+
+  module _ (value : NextValue next) where
+    value_is : frame_found frame ≡ combine (Some value.found) (combine (next_found value.inner) others)
     value_is =
-        rest_some frame.left (place frame.start) more x q reads
-        ∙ ap (λ (a : Option Found). combine a (rest_found (frame.left - 1) q)) is
-        ∙ combine_assoc (Some f) (next_found inner) (rest_found (frame.left - 1) q)
+        rest_some frame.left here more next.item next.behind next.reads
+        ∙ ap (λ (a : Option Found). combine a others) value.is
+        ∙ combine_assoc (Some value.found) (next_found value.inner) others
 
-    pub took_scalar : (old : List Frame) (rest : Frame) → rest.left ≡ frame.left - 1 → place rest.start ≡ q → inner ≡ None
-        → Moves frame old old f (Some rest)
-    took_scalar old rest left at none =
-        let rest_is : rest_found (frame.left - 1) q ≡ frame_found rest =
-        ap (λ (n : ℕ). rest_found n q) (sym left) ∙ ap (rest_found rest.left) (sym at) in
+    pub took_scalar : (old : List Frame) (rest : Frame) → rest.left ≡ frame.left - 1 → place rest.start ≡ next.behind → value.inner ≡ None
+        → Moves frame old old value.found (Some rest)
+    took_scalar old rest left_is at none =
+        let rest_is : others ≡ frame_found rest =
+        ap (λ (n : ℕ). rest_found n next.behind) (sym left_is) ∙ ap (rest_found rest.left) (sym at) in
+        let elements_are : elements_by read (frame.left - 1) next.behind ≡ elements_by read rest.left (place rest.start) =
+        ap (λ (n : ℕ). elements_by read n next.behind) (sym left_is) ∙ ap (elements_by read rest.left) (sym at) in
         record {
           so_far =
               ap (λ (a : Option Found). combine a (frames_found old)) (
               value_is
-              ∙ ap (λ (i : Option Frame). combine (Some f) (combine (next_found i) (rest_found (frame.left - 1) q))) none
-              ∙ ap (combine (Some f)) (nothing_combine (rest_found (frame.left - 1) q) ∙ rest_is))
-              ∙ combine_assoc (Some f) (frame_found rest) (frames_found old);
+              ∙ ap (λ (i : Option Frame). combine (Some value.found) (combine (next_found i) others)) none
+              ∙ ap (combine (Some value.found)) (nothing_combine others ∙ rest_is))
+              ∙ combine_assoc (Some value.found) (frame_found rest) (frames_found old);
           smaller = omega (arith, ap size at, size_left);
           last = λ h. absurd cc;
-          flat =
-              λ g there flat o. (o, λ r h. stays_flat frame.left (place frame.start) q x more reads g there flat r (ap (λ (n : ℕ). elements_by read n q) (sym left) ∙ ap (elements_by read rest.left) (sym at) ∙ h));
+          flat = λ g there flat o. (o, λ r h. stays_flat left g there flat r (elements_are ∙ h));
         }
 
-    pub took_inside : (old new : List Frame) (i : Frame) → inner ≡ Some i → IsInside (place frame.start).at x → next_weight inner ≤ length x.piece
-        → frames_found new ≡ combine (rest_found (frame.left - 1) q) (frames_found old) → frames_weight new ≤ size q + 1 + frames_weight old
-        → Moves frame old new f (Some i)
+    pub took_inside : (old new : List Frame) (i : Frame) → value.inner ≡ Some i → IsInside (place frame.start).at next.item
+        → next_weight value.inner ≤ length next.item.piece → frames_found new ≡ combine (rest_found (frame.left - 1) next.behind) (frames_found old)
+        → frames_weight new ≤ size next.behind + 1 + frames_weight old → Moves frame old new value.found (Some i)
     took_inside old new i is_there inside weight e w = record {
       so_far =
           ap (λ (a : Option Found). combine a (frames_found old)) value_is
-          ∙ combine_assoc (Some f) (combine (next_found inner) (rest_found (frame.left - 1) q)) (frames_found old)
-          ∙ ap (combine (Some f))
-          (combine_assoc (next_found inner) (rest_found (frame.left - 1) q) (frames_found old)
-          ∙ ap (combine (next_found inner)) (sym e)
+          ∙ combine_assoc (Some value.found) (combine (next_found value.inner) others) (frames_found old)
+          ∙ ap (combine (Some value.found))
+          (combine_assoc (next_found value.inner) others (frames_found old)
+          ∙ ap (combine (next_found value.inner)) (sym e)
           ∙ ap (λ (j : Option Frame). combine (next_found j) (frames_found new)) is_there);
       smaller = omega (arith, size_left, weight, w, ap next_weight is_there);
       last = λ h. absurd cc;
       flat = λ g there flat o. absurd (no_inside_there g there flat inside);
     }
 
-    pub not_put_off : (e : JsonbError) → IsInside (place frame.start).at x → SuspendCause (rest_found (frame.left - 1) q) e → StepCause frame e
+    pub not_put_off : (e : JsonbError) → IsInside (place frame.start).at next.item → SuspendCause (rest_found (frame.left - 1) next.behind) e
+        → StepCause frame e
     not_put_off errors.Malformed inside h =
         value_is
-        ∙ ap (λ (a : Option Found). combine (Some f) (combine (next_found inner) a)) h
-        ∙ ap (combine (Some f)) (combine_none (next_found inner))
+        ∙ ap (λ (a : Option Found). combine (Some value.found) (combine (next_found value.inner) a)) h
+        ∙ ap (combine (Some value.found)) (combine_none (next_found value.inner))
     not_put_off errors.NotText inside h = h
     not_put_off errors.NumberTooWide inside h = h
     not_put_off errors.OutOfMemory inside h = λ g there flat. no_inside_there g there flat inside
@@ -110,11 +139,6 @@ module _ (frame : Frame) (x : Item) (q : Place) (some : frame.left ≡ 0 → ⊥
 pub inside_is : (inner : Option Frame) (i : Frame) (P : Type 0) → inner ≡ Some i → IfSome inner (λ _. P) → P
 inside_is None i P e h = absurd cc
 inside_is (Some j) i P e h = h
-
-pub refused_item : (frame : Frame) (x : Item) (q : Place) → (frame.left ≡ 0 → ⊥) → Some (x, q) ≡ item_at (place frame.start)
-    → option_map tree_found (item_tree (place frame.start).at x) ≡ None → frame_found frame ≡ None
-refused_item frame x q some reads e =
-    rest_some frame.left (place frame.start) (omega arith) x q reads ∙ ap (λ (a : Option Found). combine a (rest_found (frame.left - 1) q)) e
 
 pub no_item : (frame : Frame) → (frame.left ≡ 0 → ⊥) → None ≡ item_at (place frame.start) → frame_found frame ≡ None
 no_item frame some e = rest_none frame.left (place frame.start) (omega arith) e
@@ -137,7 +161,7 @@ starts b f top none empty e flat = record {
   flat = λ t is low. (empty, flat t is low);
 }
 
-module _ (b : List ℕ) (found : Found) (frame : Frame) (current : Option Frame) (old : List Frame) (now : current ≡ Some frame) (s : SoFar b found current old) where
+module _ {b : List ℕ} {found : Found} {frame : Frame} {current : Option Frame} {old : List Frame} (now : current ≡ Some frame) (s : SoFar b found current old) where
   at_frame : combine (Some found) (combine (frame_found frame) (frames_found old)) ≡ container_found b
   at_frame = ap (λ (n : Option Frame). combine (Some found) (combine (next_found n) (frames_found old))) (sym now) ∙ s.so_far
 

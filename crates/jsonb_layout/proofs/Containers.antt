@@ -164,7 +164,7 @@ held_takes inside ok b Array c p t o fit e =
     let d = ended_is a.0.1 (array a.0.0) t a.2 in
     let r = elements_take inside ok c p a.0 fit a.1 in
     subst (λ (y : Tree). IsContainer y b) d.1
-    (r.items, laid_from b Array c p a.0.1 r.items o r.run r.count r.count d.0, subst (λ (k : ℕ). AreElements a.0.0 k r.items) o.at r.trees)
+    (r.items, laid_from o r.run r.count r.count d.0, subst (λ (k : ℕ). AreElements a.0.0 k r.items) o.at r.trees)
 held_takes inside ok b Object c p t o fit e =
     let k = bind_some (keys_at c None p) (λ k. elements_by inside c k.1 >>= λ r. ended r.1 (object (members k.0 r.0))) t e in
     let a = bind_some (elements_by inside c k.0.1) (λ r. ended r.1 (object (members k.0.0 r.0))) t k.2 in
@@ -178,7 +178,7 @@ held_takes inside ok b Object c p t o fit e =
     let same : length k.0.0 ≡ count a.0.0 = omega (arith, ks.count, r.count, count_items a.0.0 k.0.1.at r.items r.trees) in
     let object_is : IsObject k.0.0 (AreValues (members k.0.0 a.0.0)) b = (
       r.items,
-      laid_from b Object c p a.0.1 all o run n n d.0,
+      laid_from o run n n d.0,
       ks.rise,
       values_are k.0.0 a.0.0 _ r.items same (subst (λ (i : ℕ). AreElements a.0.0 i r.items) at r.trees),
     ) in

@@ -148,9 +148,9 @@ abbrev pub Apart : Seat → Seat → Type 0
 Apart c d = (c.at + extent c ≤ d.at) ⊎ (d.at + extent d ≤ c.at)
 
 -- Two values in a value share no byte.
-apart : (s : Seat) (f g : Form) (xs us ys vs : List Item) (x y : Item) (c d : Seat) → Child s f xs us x c → Child s g ys vs y d
+apart : {s : Seat} {f g : Form} {xs us ys vs : List Item} {x y : Item} {c d : Seat} → Child s f xs us x c → Child s g ys vs y d
     → length xs < length ys → Apart c d
-apart s f g xs us ys vs x y c d h k lt =
+apart {s = s} {f = f} {g = g} {xs = xs} {us = us} {ys = ys} {vs = vs} {x = x} {y = y} {c = c} {d = d} h k lt =
     let same : xs ++ (x ∷ us) ≡ ys ++ (y ∷ vs) = (one_layout s.bytes f g (xs ++ (x ∷ us)) (ys ++ (y ∷ vs)) h.laid k.laid).1 in
     let n : length (xs ++ (x ∷ us)) ≡ length (ys ++ (y ∷ vs)) = ap length same in
     let few : length (ys ++ (y ∷ vs)) ≡ length ys + suc (length vs) = length-append ys (y ∷ vs) in
@@ -166,16 +166,16 @@ apart s f g xs us ys vs x y c d h k lt =
       ]
     ]
 
-seat_same : (start n m : ℕ) (xs ys : List Item) (x y : Item) → n ≡ m → xs ≡ ys → x ≡ y → item_seat start n xs x ≡ item_seat start m ys y
-seat_same start n m xs ys x y e f g =
+seat_same : (start : ℕ) {n m : ℕ} {xs ys : List Item} {x y : Item} → n ≡ m → xs ≡ ys → x ≡ y → item_seat start n xs x ≡ item_seat start m ys y
+seat_same start {m = m} {xs = xs} {ys = ys} {x = x} e f g =
     ap (λ (k : ℕ). item_seat start k xs x) e ∙ ap (λ (l : List Item). item_seat start m l x) f ∙ ap (λ (z : Item). item_seat start m ys z) g
 
-one_child : (s : Seat) (f g : Form) (xs us ys vs : List Item) (x y : Item) (c d : Seat) → Child s f xs us x c → Child s g ys vs y d
+one_child : {s : Seat} {f g : Form} {xs us ys vs : List Item} {x y : Item} {c d : Seat} → Child s f xs us x c → Child s g ys vs y d
     → length xs ≡ length ys → c ≡ d
-one_child s f g xs us ys vs x y c d h k n =
+one_child {s = s} {f = f} {g = g} {xs = xs} {us = us} {ys = ys} {vs = vs} {x = x} {y = y} h k n =
     let same : xs ++ (x ∷ us) ≡ ys ++ (y ∷ vs) = (one_layout s.bytes f g (xs ++ (x ∷ us)) (ys ++ (y ∷ vs)) h.laid k.laid).1 in
     let one = one_item xs us ys vs x y same n in
-    h.seat ∙ seat_same s.at (length (xs ++ (x ∷ us))) (length (ys ++ (y ∷ vs))) xs ys x y (ap length same) one.0 one.1 ∙ sym k.seat
+    h.seat ∙ seat_same s.at (ap length same) one.0 one.1 ∙ sym k.seat
 
 -- ---- by number
 
@@ -197,12 +197,12 @@ front_length s i c h = length-append h.keys h.before ∙ ap (λ (n : ℕ). lengt
 
 pub held_apart : (s : Seat) (i j : ℕ) (c d : Seat) → Holds s i c → Holds s j d → i < j → Apart c d
 held_apart s i j c d h k lt =
-    apart s h.form k.form (h.keys ++ h.before) h.after (k.keys ++ k.before) k.after h.item k.item c d (child s i c h) (child s j d k)
+    apart (child s i c h) (child s j d k)
     (omega (arith, same_keys s i j c d h k, front_length s i c h, front_length s j d k))
 
 pub one_held : (s : Seat) (i : ℕ) (c d : Seat) → Holds s i c → Holds s i d → c ≡ d
 one_held s i c d h k =
-    one_child s h.form k.form (h.keys ++ h.before) h.after (k.keys ++ k.before) k.after h.item k.item c d (child s i c h) (child s i d k)
+    one_child (child s i c h) (child s i d k)
     (omega (arith, same_keys s i i c d h k, front_length s i c h, front_length s i d k))
 
 pub held_inside : (s : Seat) (i : ℕ) (c : Seat) → Holds s i c → (s.at + 4 ≤ c.at) × (c.at + extent c ≤ s.at + extent s)

@@ -50,6 +50,13 @@ varlena_takes p body fits e = elim (chosen (eqb (get_or p 0 0 % 2) 1) _ _ (Some 
       )
 ]
 
+-- the bytes behind a varlena header of one byte, and of four that say n
+abbrev behind_one : List ℕ → Option (List ℕ)
+behind_one p = only_if (eqb (get_or p 0 0) (2 * length p + 1)) (Some (drop 1 p))
+
+abbrev behind_four : List ℕ → ℕ → Option (List ℕ)
+behind_four p n = only_if (leb 4 (length p) && eqb (from_le_bytes w32 (take 4 p)) n) (Some (drop 4 p))
+
 first_even : (n : ℕ) (r : List ℕ) → get_or (to_le_bytes w32 (4 * n) ++ r) 0 0 % 2 ≡ 0
 first_even n r = omega arith
 
@@ -63,7 +70,7 @@ varlena_again p body (inl (small, e)) =
     ap (from_le_bytes w32) (ap (take 4) e ∙ take_at (to_le_bytes w32 n) body 4 refl) ∙ from_le_bytes-to_le_bytes_4 n (omega arith) in
     let rest : drop 4 p ≡ body = ap (drop 4) e ∙ drop_at (to_le_bytes w32 n) body 4 refl in
     ap
-    (λ (k : ℕ). cond (eqb k 1) (only_if (eqb (get_or p 0 0) (2 * length p + 1)) (Some (drop 1 p))) (only_if (leb 4 (length p) && eqb (from_le_bytes w32 (take 4 p)) n) (Some (drop 4 p))))
+    (λ (k : ℕ). cond (eqb k 1) (behind_one p) (behind_four p n))
     even
     ∙ ap (λ (k : Bool). only_if (k && eqb (from_le_bytes w32 (take 4 p)) n) (Some (drop 4 p))) (le-leb 4 (length p) long)
     ∙ ap (λ (k : Bool). only_if k (Some (drop 4 p))) (eq-eqb (from_le_bytes w32 (take 4 p)) n word)
@@ -73,7 +80,7 @@ varlena_again p body (inr (small, e)) =
     let odd : get_or p 0 0 % 2 ≡ 1 = omega (arith, first) in
     let rest : drop 1 p ≡ body = ap (drop 1) e in
     ap
-    (λ (k : ℕ). cond (eqb k 1) (only_if (eqb (get_or p 0 0) (2 * length p + 1)) (Some (drop 1 p))) (only_if (leb 4 (length p) && eqb (from_le_bytes w32 (take 4 p)) (4 * length p)) (Some (drop 4 p))))
+    (λ (k : ℕ). cond (eqb k 1) (behind_one p) (behind_four p (4 * length p)))
     odd
     ∙ ap (λ (k : Bool). only_if k (Some (drop 1 p))) (eq-eqb (get_or p 0 0) (2 * length p + 1) first)
     ∙ ap (λ (r : List ℕ). Some r) rest
@@ -110,6 +117,13 @@ pub record Heads (b : List ℕ) (h : Header) (r : List ℕ) : Type 0 where
   pub form : IsShort head h ⊎ IsLong head h
   pub fits : IsBytes r
 
+-- the two forms of a header, of its first word and its bytes
+abbrev long_header : ℕ → List ℕ → Option (Header × List ℕ)
+long_header w b = only_if (leb 4 (length b)) (Some (long_of w (from_le_bytes w16 (take 2 (drop 2 b))), drop 4 b))
+
+abbrev short_header : ℕ → List ℕ → Option (Header × List ℕ)
+short_header w b = only_if (ltb w (2 ^ 15 + 2 ^ 14)) (Some (short_of w, drop 2 b))
+
 pub header_takes : (b : List ℕ) (x : Header × List ℕ) → IsBytes b → header_of b ≡ Some x → Heads b x.0 x.1
 unfolding header_of
 header_takes b x fits e =
@@ -117,7 +131,7 @@ header_takes b x fits e =
     let g = guard (leb 2 (length b)) (header_with w b) x e in
     let two = two_bytes b fits (leb-true 2 (length b) g.0) in
     let v = from_le_bytes w16 (take 2 (drop 2 b)) in
-    elim (chosen (ltb w (2 ^ 15)) (only_if (leb 4 (length b)) (Some (long_of w v, drop 4 b))) (only_if (ltb w (2 ^ 15 + 2 ^ 14)) (Some (short_of w, drop 2 b))) (Some x) g.1) [
+    elim (chosen (ltb w (2 ^ 15)) (long_header w b) (short_header w b) (Some x) g.1) [
       | inl c ↦
           let lt = ltb-true w (2 ^ 15) c.0 in
           let d = guard (leb 4 (length b)) (Some (long_of w v, drop 4 b)) x c.1 in
@@ -146,10 +160,10 @@ header_takes b x fits e =
           })
     ]
 
-header_same : (m m' : Bool) (f f' l l' : ℕ) (r r' : List ℕ) → m ≡ m' → f ≡ f' → l ≡ l' → r ≡ r'
+header_same : {m m' : Bool} {f f' l l' : ℕ} {r r' : List ℕ} → m ≡ m' → f ≡ f' → l ≡ l' → r ≡ r'
     → ◌≡◌ {A = Option (Header × List ℕ)} (Some (record { minus = m; dscale = f; lift = l }, r))
     (Some (record { minus = m'; dscale = f'; lift = l' }, r'))
-header_same m m' f f' l l' r r' e g h k = rw (e, g, h, k) refl
+header_same e g h k = rw (e, g, h, k) refl
 
 minus_short : (m : Bool) (f s : ℕ) → f < 64 → s < 128 → eqb ((2 ^ 15 + 2 ^ 13 * bit m + 2 ^ 7 * f + s) / 2 ^ 13 % 2) 1 ≡ m
 minus_short true f s h k = eq-eqb _ 1 (omega arith)
@@ -169,15 +183,13 @@ header_again head h r (inl (s, k, f, l, e)) =
     let word : from_le_bytes w16 (take 2 b) ≡ w =
     ap (from_le_bytes w16) (ap (take 2) parts ∙ take_at (to_le_bytes w16 w) r 2 refl) ∙ from_le_bytes-to_le_bytes_2 w (omega arith) in
     let long : 2 ≤ length b = omega (arith, ap length parts, length-append (to_le_bytes w16 w) r) in
+    let dscale : w / 2 ^ 7 % 64 ≡ h.dscale = omega arith in
+    let lift : w % 128 ≡ s = omega arith in
     ap (λ (k : Bool). only_if k (header_with (from_le_bytes w16 (take 2 b)) b)) (le-leb 2 (length b) long)
     ∙ ap (λ (v : ℕ). header_with v b) word
-    ∙ ap
-    (λ (k : Bool). cond k (only_if (leb 4 (length b)) (Some (long_of w (from_le_bytes w16 (take 2 (drop 2 b))), drop 4 b))) (only_if (ltb w (2 ^ 15 + 2 ^ 14)) (Some (short_of w, drop 2 b))))
-    (le-ltb w (2 ^ 15) (omega arith))
+    ∙ ap (λ (k : Bool). cond k (long_header w b) (short_header w b)) (le-ltb w (2 ^ 15) (omega arith))
     ∙ ap (λ (k : Bool). only_if k (Some (short_of w, drop 2 b))) (lt-ltb w (2 ^ 15 + 2 ^ 14) (omega arith))
-    ∙ header_same (eqb (w / 2 ^ 13 % 2) 1) h.minus (w / 2 ^ 7 % 64) h.dscale (short_lift (w % 128)) h.lift (drop 2 b) r
-    (minus_short h.minus h.dscale s f k) (omega arith) (ap short_lift (omega arith) ∙ sym l)
-    (ap (drop 2) parts ∙ drop_at (to_le_bytes w16 w) r 2 refl)
+    ∙ header_same (minus_short h.minus h.dscale s f k) dscale (ap short_lift lift ∙ sym l) (ap (drop 2) parts ∙ drop_at (to_le_bytes w16 w) r 2 refl)
 header_again head h r (inr (v, k, f, l, e)) =
     let w = 2 ^ 14 * bit h.minus + h.dscale in
     let b = head ++ r in
@@ -190,14 +202,12 @@ header_again head h r (inr (v, k, f, l, e)) =
     let weight : from_le_bytes w16 (take 2 (drop 2 b)) ≡ v =
     ap (from_le_bytes w16) (ap (take 2) after ∙ take_at (to_le_bytes w16 v) r 2 refl) ∙ from_le_bytes-to_le_bytes_2 v k in
     let long : 4 ≤ length b = omega (arith, ap length parts, length-append (to_le_bytes w16 w) rest, length-append (to_le_bytes w16 v) r) in
+    let dscale : w % 2 ^ 14 ≡ h.dscale = omega arith in
     ap (λ (k : Bool). only_if k (header_with (from_le_bytes w16 (take 2 b)) b)) (le-leb 2 (length b) (omega arith))
     ∙ ap (λ (u : ℕ). header_with u b) word
-    ∙ ap
-    (λ (k : Bool). cond k (only_if (leb 4 (length b)) (Some (long_of w (from_le_bytes w16 (take 2 (drop 2 b))), drop 4 b))) (only_if (ltb w (2 ^ 15 + 2 ^ 14)) (Some (short_of w, drop 2 b))))
-    (lt-ltb w (2 ^ 15) (omega arith))
+    ∙ ap (λ (k : Bool). cond k (long_header w b) (short_header w b)) (lt-ltb w (2 ^ 15) (omega arith))
     ∙ ap (λ (k : Bool). only_if k (Some (long_of w (from_le_bytes w16 (take 2 (drop 2 b))), drop 4 b))) (le-leb 4 (length b) long)
-    ∙ header_same (leb (2 ^ 14) w) h.minus (w % 2 ^ 14) h.dscale (long_lift (from_le_bytes w16 (take 2 (drop 2 b)))) h.lift (drop 4 b) r
-    (minus_long h.minus h.dscale f) (omega arith) (ap long_lift weight ∙ sym l) (ap (drop 4) parts)
+    ∙ header_same (minus_long h.minus h.dscale f) dscale (ap long_lift weight ∙ sym l) (ap (drop 4) parts)
 
 -- ---- the groups
 

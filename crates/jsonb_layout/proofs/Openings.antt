@@ -144,8 +144,7 @@ open_again b f c p o =
     let room : n ≤ length body = omega (arith, len, o.words) in
     let small : length body - n < 2 ^ 28 = omega (arith, len, o.words, o.rest) in
     let place =
-    place_same 0 p.index 0 p.at (take n body) p.words (drop n body) p.rest (sym o.index) (sym o.at) (take_at p.words p.rest n o.words)
-    (drop_at p.words p.rest n o.words) in
+    place_same (sym o.index) (sym o.at) (take_at p.words p.rest n o.words) (drop_at p.words p.rest n o.words) in
     ap (λ (k : Bool). only_if k (form_of (from_le_bytes w32 (take 4 b))) >>= begun (drop 4 b)) (le-leb 4 (length b) long)
     ∙ ap (λ (x : List ℕ). form_of (from_le_bytes w32 (take 4 b)) >>= begun x) d
     ∙ ap (λ (x : ℕ). form_of x >>= begun body) word
@@ -162,9 +161,9 @@ pub length-entries : (i at : ℕ) (xs : List Item) → length (entries i at xs) 
 length-entries i at [] = refl
 length-entries i at (x ∷ xs) = ap suc (length-entries (i + 1) (at + length x.piece) xs)
 
-pub laid_from : (b : List ℕ) (f : Form) (c : ℕ) (p q : Place) (xs : List Item) → Opens b f c p → Run p q xs → length xs ≡ items_in f c
+pub laid_from : {b : List ℕ} {f : Form} {c : ℕ} {p q : Place} {xs : List Item} → Opens b f c p → Run p q xs → length xs ≡ items_in f c
     → HasCount f c (length xs) → length q.rest ≡ 0 → Laid b f xs
-laid_from b f c p q xs o r n has e =
+laid_from {b = b} {f = f} {c = c} {p = p} {q = q} {xs = xs} o r n has e =
     let es = entries 0 0 xs in
     let ws : p.words ≡ words es ++ q.words =
     subst (λ (i : ℕ). p.words ≡ words (entries i 0 xs) ++ q.words) o.index
@@ -235,7 +234,7 @@ lone_in_takes b Lone c p x o fit e =
     let d = ended_is a.0.1 a.0.0 x a.2 in
     let one = item_takes p a.0.1 a.0.0 fit a.1 in
     subst (λ (y : Item). Laid b Lone (y ∷ []) × IsBytes y.piece) d.1
-    (laid_from b Lone c p a.0.1 (a.0.0 ∷ []) o one.0 (sym o.alone) (sym o.alone, o.alone) d.0, one.2)
+    (laid_from o one.0 (sym o.alone) (sym o.alone, o.alone) d.0, one.2)
 
 -- The item of a root scalar that is read was laid.
 pub lone_takes : (b : List ℕ) (x : Item) → IsBytes b → lone_item b ≡ Some x → Laid b Lone (x ∷ []) × IsBytes x.piece

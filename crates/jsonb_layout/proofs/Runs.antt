@@ -72,12 +72,15 @@ Run-head p q x xs r = record {
   kinds = (r.kinds.0, tt);
 }
 
-pub place_same : (i j a b : ℕ) (v w r s : List ℕ) → i ≡ j → a ≡ b → v ≡ w → r ≡ s
+pub place_same : {i j a b : ℕ} {v w r s : List ℕ} → i ≡ j → a ≡ b → v ≡ w → r ≡ s
     → ◌≡◌ {A = Place} (record { index = i; at = a; words = v; rest = r }) (record { index = j; at = b; words = w; rest = s })
-place_same i j a b v w r s e f g h = rw (e, f, g, h) refl
+place_same e f g h = rw (e, f, g, h) refl
 
 pub Run-none : (p q : Place) → Run p q [] → p ≡ q
-Run-none p q r = place_same p.index q.index p.at q.at p.words q.words p.rest q.rest (omega (arith, r.index)) (omega (arith, r.at)) r.words r.rest
+Run-none p q r =
+    let index : p.index ≡ q.index = omega (arith, r.index) in
+    let at : p.at ≡ q.at = omega (arith, r.at) in
+    place_same index at r.words r.rest
 
 pub Run-append : (xs ys : List Item) (p m q : Place) → Run p m xs → Run m q ys → Run p q (xs ++ ys)
 Run-append [] ys p m q a b = subst (λ (k : Place). Run k q ys) (sym (Run-none p m a)) b
@@ -94,9 +97,9 @@ Run-split (x ∷ xs) ys p q r =
 abbrev found_at : ℕ → List ℕ → ℕ → ℕ → List ℕ → List ℕ → Option (Item × Place)
 found_at kind piece index at ws rest = Some (record { kind = kind; piece = piece }, record { index = index; at = at; words = ws; rest = rest })
 
-found_same : (k k' : ℕ) (c c' : List ℕ) (i a : ℕ) (w w' r r' : List ℕ) → k ≡ k' → c ≡ c' → w ≡ w' → r ≡ r'
+found_same : {k k' : ℕ} {c c' : List ℕ} (i a : ℕ) {w w' r r' : List ℕ} → k ≡ k' → c ≡ c' → w ≡ w' → r ≡ r'
     → found_at k c i a w r ≡ found_at k' c' i a w' r'
-found_same k k' c c' i a w w' r r' e f g h = rw (e, f, g, h) refl
+found_same i a e f g h = rw (e, f, g, h) refl
 
 item_from : (p : Place) (w n : ℕ) → 4 ≤ length p.words → from_le_bytes w32 (take 4 p.words) ≡ w → length_of p.index p.at w ≡ Some n
     → n ≤ length p.rest
@@ -122,9 +125,7 @@ item_again p q x xs r l =
     let room : length x.piece ≤ length p.rest = omega (arith, ap length whole, length-append x.piece (pieces xs ++ q.rest)) in
     item_from p w (length x.piece) long (ap (from_le_bytes w32) t ∙ from_le_bytes-to_le_bytes_4 w s.fits)
     (says_length p.index p.at (length x.piece) w s.len) room
-    ∙ found_same (w / 2 ^ 28 % 8) x.kind (take (length x.piece) p.rest) x.piece (p.index + 1) (p.at + length x.piece) (drop 4 p.words) left
-    (drop (length x.piece) p.rest) (pieces xs ++ q.rest)
-    s.kind (ap (take (length x.piece)) whole ∙ take_at x.piece (pieces xs ++ q.rest) (length x.piece) refl) d
+    ∙ found_same (p.index + 1) (p.at + length x.piece) s.kind (ap (take (length x.piece)) whole ∙ take_at x.piece (pieces xs ++ q.rest) (length x.piece) refl) d
     (ap (drop (length x.piece)) whole ∙ drop_at x.piece (pieces xs ++ q.rest) (length x.piece) refl)
 
 pub record Fit (p : Place) : Type 0 where

@@ -30,15 +30,15 @@ seat_from word payload at x =
     let own = own_bytes at x in
     record { at = where_it_is own word (payload + at + (length x.piece - length own)); kind = x.kind; bytes = own }
 
-seat_from_same : (v w s r a b : ℕ) (x : Item) → v ≡ w → s ≡ r → a ≡ b → seat_from v s a x ≡ seat_from w r b x
-seat_from_same v w s r a b x e f g = ap (λ (k : ℕ). seat_from k s a x) e ∙ ap (λ (k : ℕ). seat_from w k a x) f ∙ ap (λ (k : ℕ). seat_from w r k x) g
+seat_from_same : {v w s r a b : ℕ} (x : Item) → v ≡ w → s ≡ r → a ≡ b → seat_from v s a x ≡ seat_from w r b x
+seat_from_same {w = w} {s = s} {r = r} {a = a} x e f g = ap (λ (k : ℕ). seat_from k s a x) e ∙ ap (λ (k : ℕ). seat_from w k a x) f ∙ ap (λ (k : ℕ). seat_from w r k x) g
 
 -- The seat that is computed is the item's, where the place is behind the pieces before it, and as many entry words are
 -- left as there are items from it on.
 seat_same : (start n s : ℕ) (p : Place) (before : List Item) (x : Item) → s ≡ start + 4 + 4 * n → p.at ≡ length (pieces before)
     → s - length p.words ≡ start + 4 + 4 * length before → seat_at s p x ≡ item_seat start n before x
 seat_same start n s p before x payload at word =
-    seat_from_same (s - length p.words) (start + 4 + 4 * length before) s (start + 4 + 4 * n) p.at (length (pieces before)) x word payload at
+    seat_from_same x word payload at
 
 -- ---- the seats of a run
 
@@ -142,7 +142,7 @@ array_held at c b p t fits e h i seat get =
     let a = bind_some (elements_by read c p) (λ r. ended r.1 (array r.0)) t (read_held b Array c p t e h) in
     let d = ended_is a.0.1 (array a.0.0) t a.2 in
     let r = elements_take read takes_read c p a.0 o.1 a.1 in
-    let laid = laid_from b Array c p a.0.1 r.items o.0 r.run r.count r.count d.0 in
+    let laid = laid_from o.0 r.run r.count r.count d.0 in
     let n = length r.items in
     let s = at + 4 + length p.words in
     let stage : Stage at n s [] r.items p = record {
@@ -181,7 +181,7 @@ object_held at c b p q ks t fits e ek h i seat get =
     let r = elements_take read takes_read c q a.0 k.fit a.1 in
     let all = keys ++ r.items in
     let n : length all ≡ 2 * c = omega (arith, length-append keys r.items, length-map ks key_item, k.count, r.count) in
-    let laid = laid_from b Object c p a.0.1 all o.0 (Run-append keys r.items p q a.0.1 k.run r.run) n n d.0 in
+    let laid = laid_from o.0 (Run-append keys r.items p q a.0.1 k.run r.run) n n d.0 in
     let s = at + 4 + length p.words in
     let total : length (pieces all) ≡ length (pieces keys) + length (pieces r.items) =
     ap length (flat_map-append (λ (x : Item). x.piece) keys r.items) ∙ length-append (pieces keys) (pieces r.items) in

@@ -18,14 +18,12 @@ invariant_of-result c =
     let k = kind_is c.args.at c.args.item c.requires.stands c.in-Some.kind c.in-Some.ensures in
     let own = c.own_bytes-bytes.ensures.own ∙ ap (own_of c.in-Some.kind c.args.at) c.piece-piece.ensures.piece in
     let size = ap length c.piece-piece.ensures.piece in
-    let begin = c.args.piece_begin + (length c.piece-piece.result.now - length c.own_bytes-bytes.result.now) in
     let short = short_own c.in-Some.kind c.args.at c.args.item.piece (omega (arith, c.piece-piece.ensures.short, size)) in
     record {
       stands = subst (λ (b : List ℕ). IsJsonTree (value_of c.in-Some.kind b)) (sym own) k.owned.stands;
       short = subst (λ (b : List ℕ). is_short c.in-Some.kind b ≡ true) (sym own) short;
       room =
-          place_room c.own_bytes-bytes.result.now c.args.word_begin c.args.piece_begin begin c.offset_of-offset.result _ c.offset_of-offset.ensures
-          c.requires.before (omega (arith, c.requires.room, c.own_bytes-bytes.ensures.length, size)) (omega (arith, c.requires.room));
+          place_room c.own_bytes-bytes.result.now _ c.offset_of-offset.ensures c.requires.before (omega (arith, c.requires.room, c.own_bytes-bytes.ensures.length, size)) (omega (arith, c.requires.room));
     }
 
 pub returns-clause-tree : goal.returns-clause-tree

@@ -3,7 +3,7 @@ use Rattle.std.proofs.lemmas.Bool.{eqb-true, eqb-false}
 use Rattle.std.proofs.lemmas.Result.{err_from_is_err_and}
 use Rattle.jsonb.specs.inner.Views.{place}
 use Rattle.jsonb.proofs.FrameLaws.{past_end}
-use Rattle.jsonb.proofs.StepLaws.{popped, no_item, refused_item, took_scalar, took_inside, not_put_off, inside_is}
+use Rattle.jsonb.proofs.StepLaws.{NextItem, NextValue, popped, no_item, refused_item, took_scalar, took_inside, not_put_off, inside_is}
 use Rattle.jsonb.proofs.search.advance.Goals as goal
 
 pub returns-then-not-is_empty : goal.returns-then-not-is_empty
@@ -20,28 +20,36 @@ returns-in_default c = no_item c.args.frame c.if-frame-eq0.false c.in_default.en
 
 pub returns-in_default-value_faults : goal.returns-in_default-value_faults
 returns-in_default-value_faults c =
-    refused_item c.args.frame c.in-Some.item (place c.in-Some.start) c.if-frame-eq0.false c.in-Some.ensures c.in_default-value_faults.ensures.found
+    let next : NextItem c.args.frame =
+    record { item = c.in-Some.item; behind = place c.in-Some.start; some = c.if-frame-eq0.false; reads = c.in-Some.ensures } in
+    refused_item next c.in_default-value_faults.ensures.found
 
 pub returns-in_default-inside : goal.returns-in_default-inside
 returns-in_default-inside c =
-    took_scalar c.args.frame c.in-Some.item (place c.in-Some.start) c.if-frame-eq0.false c.in-Some.ensures c.in-Some-value_faults.found
-    c.in-Some-value_faults.inside c.in-Some-value_faults.ensures.found c.args.suspended.now.items _ refl refl c.in_default-inside.is
+    let next : NextItem c.args.frame =
+    record { item = c.in-Some.item; behind = place c.in-Some.start; some = c.if-frame-eq0.false; reads = c.in-Some.ensures } in
+    let v = c.in-Some-value_faults in
+    let value : NextValue next = record { found = v.found; inner = v.inside; is = v.ensures.found } in
+    took_scalar next value c.args.suspended.now.items _ refl refl c.in_default-inside.is
 
 pub returns : goal.returns
 returns c =
+    let next : NextItem c.args.frame =
+    record { item = c.in-Some.item; behind = place c.in-Some.start; some = c.if-frame-eq0.false; reads = c.in-Some.ensures } in
     let v = c.in-Some-value_faults in
+    let value : NextValue next = record { found = v.found; inner = v.inside; is = v.ensures.found } in
     let frame = c.in-Some-inside in
     let inside = inside_is v.inside frame.inside _ frame.is v.ensures.inside in
-    let suspended = c.args.suspended.now.items in
-    took_inside c.args.frame c.in-Some.item (place c.in-Some.start) c.if-frame-eq0.false c.in-Some.ensures v.found v.inside v.ensures.found
-    suspended c.suspend.new.suspended.items frame.inside frame.is inside v.ensures.weight c.in_ok-suspend.ensures.found c.in_ok-suspend.ensures.weight
+    took_inside next value c.args.suspended.now.items c.suspend.new.suspended.items frame.inside frame.is inside v.ensures.weight
+    c.in_ok-suspend.ensures.found c.in_ok-suspend.ensures.weight
 
 pub returns-in_err-suspend : goal.returns-in_err-suspend
 returns-in_err-suspend c =
+    let next : NextItem c.args.frame =
+    record { item = c.in-Some.item; behind = place c.in-Some.start; some = c.if-frame-eq0.false; reads = c.in-Some.ensures } in
     let v = c.in-Some-value_faults in
+    let value : NextValue next = record { found = v.found; inner = v.inside; is = v.ensures.found } in
     let frame = c.in-Some-inside in
     let inside = inside_is v.inside frame.inside _ frame.is v.ensures.inside in
     let p = err_from_is_err_and c.from_residual.result c.from_residual.ensures.1 in
-    rw (p.1, p.2)
-    (not_put_off c.args.frame c.in-Some.item (place c.in-Some.start) c.if-frame-eq0.false c.in-Some.ensures v.found v.inside v.ensures.found
-    c.in_err-suspend.field-0.0 inside c.in_err-suspend.ensures.cause)
+    rw (p.1, p.2) (not_put_off next value c.in_err-suspend.field-0.0 inside c.in_err-suspend.ensures.cause)

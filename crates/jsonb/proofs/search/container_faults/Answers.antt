@@ -10,19 +10,16 @@ loop-current-init c =
 
 pub loop-current-smaller : goal.loop-current-smaller
 loop-current-smaller c =
-    goes_down c.args.bytes.now c.loop-current.found c.in-Some-current.frame c.loop-current.current c.loop-current.suspended.items
-    c.in-Some-current.is c.loop-current.invariant c.advance.new.suspended.items c.in-Ok.more c.in-Ok.next c.in-Ok.ensures
+    goes_down c.in-Some-current.is c.loop-current.invariant c.advance.new.suspended.items c.in-Ok.more c.in-Ok.next c.in-Ok.ensures
 
 pub loop-current-preserved : goal.loop-current-preserved
 loop-current-preserved c =
     subst (λ (f : Found). SoFar c.args.bytes.now f c.in-Ok.next c.advance.new.suspended.items) (sym c.with-found.ensures)
-    (goes_on c.args.bytes.now c.loop-current.found c.in-Some-current.frame c.loop-current.current c.loop-current.suspended.items c.in-Some-current.is
-    c.loop-current.invariant c.advance.new.suspended.items c.in-Ok.more c.in-Ok.next c.in-Ok.ensures)
+    (goes_on c.in-Some-current.is c.loop-current.invariant c.advance.new.suspended.items c.in-Ok.more c.in-Ok.next c.in-Ok.ensures)
 
 pub returns-in-Err : goal.returns-in-Err
 returns-in-Err c =
-    stops c.args.bytes.now c.loop-current.found c.in-Some-current.frame c.loop-current.current c.loop-current.suspended.items c.in-Some-current.is
-    c.loop-current.invariant c.in-Err.error c.in-Err.ensures
+    stops c.in-Some-current.is c.loop-current.invariant c.in-Err.error c.in-Err.ensures
 
 pub returns : goal.returns
 returns c =

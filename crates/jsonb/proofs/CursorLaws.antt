@@ -25,6 +25,7 @@ tree_by r = r >>= λ r. Some (array r.0)
 abbrev left_by : Option (Elements × Place) → List Tree
 left_by r = elements_of (or_null (tree_by r))
 
+-- an array that is JSON and has one element more: the element, and the others
 pub next_element : (n : ℕ) (p q : Place) (x : Item) → item_at p ≡ Some (x, q) → IsJsonTree (array_at (suc n) p) → NextElement n p x q
 next_element n p q x e json =
     go (item_tree p.at x) refl (elements_by read n q) refl (subst (λ (r : Option (Elements × Place)). IsJsonTree (tree_by r)) made json)
@@ -64,8 +65,10 @@ module _ (c : Cursor) (some_left : 0 < c.left.count) where
   full : IsJsonTree (array_at (suc (c.left.count - 1)) here)
   full = subst (λ (k : ℕ). IsJsonTree (array_at k here)) (sym (less_one c.left.count some_left)) c.stands
 
+  -- where elements are left, there is an item
   pub elements_go_on : None ≡ item_at (place c.left.start) → ⊥
   elements_go_on e = let h : IsJsonTree None = subst IsJsonTree (ap tree_by (values_none (c.left.count - 1) here (sym e))) full in cc
 
+  -- the next element, and those that are left behind it
   pub element_is : {x : Item} {q : Place} → Some (x, q) ≡ item_at (place c.left.start) → NextElement (c.left.count - 1) (place c.left.start) x q
   element_is {x = x} {q = q} e = next_element (c.left.count - 1) here q x (sym e) full

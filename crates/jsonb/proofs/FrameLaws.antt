@@ -27,9 +27,11 @@ pub rest_end : (n : ℕ) (p : Place) → n ≡ 0 → rest_found n p ≡ ended p 
 unfolding elements_by
 rest_end n p e = ap (λ (k : ℕ). rest_found k p) e
 
+-- a frame of no values at the end of the payload holds nothing
 pub at_end : (n : ℕ) (p : Place) → n ≡ 0 → length p.rest ≡ 0 → rest_found n p ≡ Some nothing
 at_end n p e h = rest_end n p e ∙ rw (eq-eqb (length p.rest) 0 h) refl
 
+-- a frame of no values with bytes behind it can not be read
 pub past_end : (n : ℕ) (p : Place) → n ≡ 0 → (length p.rest ≡ 0 → ⊥) → rest_found n p ≡ None
 past_end n p e h = rest_end n p e ∙ rw (ne_eqb (length p.rest) 0 h) refl
 
@@ -58,9 +60,11 @@ unfolding elements_by
 first_some n p q x e = rw e (one_more (item_tree p.at x) (elements_by read n q))
 
 module _ (n : ℕ) (p : Place) (some : 0 < n) where
+  -- where no item is, what is left can not be read
   pub rest_none : None ≡ item_at p → rest_found n p ≡ None
   rest_none e = ap (λ (k : ℕ). rest_found k p) (sym (less_one n some)) ∙ first_none (n - 1) p (sym e)
 
+  -- what is left is found in the next item and in the others
   pub rest_some : (x : Item) (q : Place) → Some (x, q) ≡ item_at p
       → rest_found n p ≡ combine (option_map tree_found (item_tree p.at x)) (rest_found (n - 1) q)
   rest_some x q e = ap (λ (k : ℕ). rest_found k p) (sym (less_one n some)) ∙ first_some (n - 1) p q x (sym e)
@@ -92,6 +96,7 @@ pub inside_some : (at : ℕ) (x : Item) (b : List ℕ) → x.kind ≡ 5 → Some
     → option_map tree_found (item_tree at x) ≡ container_found b
 inside_some at x b five e = ap (option_map tree_found) (inside_of at x five ∙ ap (λ (r : Option (List ℕ)). r >>= read) (sym e))
 
+-- an item of kind 5 is no scalar
 pub is_inside : (at : ℕ) (x : Item) (b : List ℕ) → x.kind ≡ 5 → Some b ≡ unpadded at x.piece → IsInside at x
 is_inside at x b five e s h = read_no_scalar b s (ap (λ (r : Option (List ℕ)). r >>= read) e ∙ sym (inside_of at x five) ∙ h)
 
@@ -118,12 +123,15 @@ module _ (b : List ℕ) where
   opened_by : (o : Option (Form × ℕ × Place)) → o ≡ opened b → container_found b ≡ option_map tree_found (o >>= λ o. held_by read o.0 o.1 o.2)
   opened_by o e = ap (option_map tree_found) (read_unroll b ∙ ap (λ (o : Option (Form × ℕ × Place)). o >>= λ o. held_by read o.0 o.1 o.2) (sym e))
 
+  -- what is not opened is no container
   pub not_opened : None ≡ opened b → container_found b ≡ None
   not_opened e = opened_by None e
 
+  -- in an array is found what is found in its elements
   pub array_found : (c : ℕ) (p : Place) → Some (Array, c, p) ≡ opened b → container_found b ≡ combine (Some nothing) (rest_found c p)
   array_found c p e = opened_by (Some (Array, c, p)) e ∙ array_end (elements_by read c p) ∙ sym (nothing_combine (rest_found c p))
 
+  -- a root scalar is no container inside
   pub lone_found : (c : ℕ) (p : Place) → Some (Lone, c, p) ≡ opened b → container_found b ≡ None
   lone_found c p e = opened_by (Some (Lone, c, p)) e
 
@@ -136,9 +144,11 @@ module _ (b : List ℕ) where
         (λ (k : Option (List (List ℕ) × Place)). option_map tree_found (k >>= λ k. elements_by read c k.1 >>= λ r. ended r.1 (object (members k.0 r.0))))
         (sym h)
 
+    -- an object without its keys is none
     pub no_keys : None ≡ keys_at c None p → container_found b ≡ None
     no_keys h = object_by None h
 
+    -- in an object is found what is found in its keys and values
     pub object_found : (k : List (List ℕ) × Place) → Some k ≡ keys_at c None p
         → container_found b ≡ combine (Some (keys_found k.0)) (rest_found c k.1)
     object_found k h =
@@ -162,6 +172,7 @@ module _ (b : List ℕ) (t : Tree) (is : read b ≡ Some t) (low : nest t ≤ 1)
   held_is : (f : Form) (c : ℕ) (p : Place) → Some (f, c, p) ≡ opened b → held_by read f c p ≡ Some t
   held_is f c p e = ap (λ (o : Option (Form × ℕ × Place)). o >>= λ o. held_by read o.0 o.1 o.2) e ∙ sym (read_unroll b) ∙ is
 
+  -- a flat array holds scalars
   pub array_flat : (c : ℕ) (p : Place) → Some (Array, c, p) ≡ opened b → Flat c p
   array_flat c p e r h =
       let a = bind_some (elements_by read c p) (λ r. ended r.1 (array r.0)) t (held_is Array c p e) in
@@ -170,6 +181,7 @@ module _ (b : List ℕ) (t : Tree) (is : read b ≡ Some t) (low : nest t ≤ 1)
       let n : nest t ≡ 1 + nest_elements a.0.0 = ap nest (sym d.1) in
       subst (λ (y : Elements × Place). nest_elements y.0 ≡ 0) same (omega arith)
 
+  -- a flat object holds scalars
   pub object_flat : (c : ℕ) (p : Place) → Some (Object, c, p) ≡ opened b → (k : List (List ℕ) × Place) → Some k ≡ keys_at c None p → Flat c k.1
   object_flat c p e k g r h =
       let j = bind_some (keys_at c None p) (λ k. elements_by read c k.1 >>= λ r. ended r.1 (object (members k.0 r.0))) t (held_is Object c p e) in
@@ -268,6 +280,7 @@ pub record KeysRead (r : Option (List (List ℕ) × Place)) (f : Found) (q : Pla
   pub reads : Some (names, q) ≡ r
   pub found : keys_found names ≡ f
 
+-- the keys in which something was found, as they are read
 pub keys_read : (r : Option (List (List ℕ) × Place)) (f : Found) (q : Place) → Some (f, q) ≡ keys_after nothing r → KeysRead r f q
 keys_read None f q e = absurd cc
 keys_read (Some k) f q e =
@@ -279,6 +292,7 @@ keys_read (Some k) f q e =
       found = ap (λ (x : Found × Place). x.0) same;
     }
 
+-- where nothing can be told of keys, they can not be read
 pub none_read : (r : Option (List (List ℕ) × Place)) → None ≡ keys_after nothing r → None ≡ r
 none_read None e = refl
 none_read (Some k) e = absurd cc

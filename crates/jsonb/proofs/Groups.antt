@@ -46,6 +46,7 @@ fit_some b e = go (groups_of b) refl e
     go None h k = absurd cc
     go (Some gs) h k = (gs, h, k)
 
+-- groups that do not fit make no number
 pub unfit : (h : Header) (b : List ℕ) → groups_fit_of b ≡ false → None ≡ rest_of h b
 unfit h b e = go (groups_of b) e
   where
@@ -57,24 +58,29 @@ unfit h b e = go (groups_of b) e
 pub no_end : (h : Header) (b gs : List ℕ) → groups_of b ≡ Some gs → are_groups gs ≡ false → None ≡ rest_of h b
 no_end h b gs e f = rw (e, f) refl
 
+-- without a varlena there is no number
 pub no_header : (p : List ℕ) → None ≡ varlena_of p → None ≡ option_map is_narrow (numeric_of p)
 unfolding numeric_of
 no_header p e = rw (← e) refl
 
+-- without a header there is no number
 pub no_groups : (p body : List ℕ) → Some body ≡ varlena_of p → None ≡ header_of body → None ≡ option_map is_narrow (numeric_of p)
 unfolding numeric_of
 no_groups p body e f = rw (← e, ← f) refl
 
+-- the header and the groups decide
 pub rest_is : (p body : List ℕ) (h : Header) (b : List ℕ) → Some body ≡ varlena_of p → Some (h, b) ≡ header_of body
     → rest_of h b ≡ option_map is_narrow (numeric_of p)
 unfolding numeric_of
 rest_is p body h b e f = rw (← e, ← f) refl
 
+-- no groups with the header of 0 are 0, which is narrow
 pub zero_rest : (h : Header) (b : List ℕ) → length b ≡ 0 → ((h.lift == 2 ^ 15) && not h.minus) ≡ true → Some true ≡ rest_of h b
 unfolding groups_of value_of is_narrow
 zero_rest h [] e l = rw l refl
 zero_rest h (x ∷ b) e l = absurd cc
 
+-- no groups with another header are no number
 pub zero_none : (h : Header) (b : List ℕ) → length b ≡ 0 → ((h.lift == 2 ^ 15) && not h.minus) ≡ false → None ≡ rest_of h b
 unfolding groups_of value_of
 zero_none h [] e l = rw l refl
@@ -101,6 +107,7 @@ pub record Shown (b : List ℕ) : Type 0 where
   pub first_fits : g < 10000
   pub last_fits : get_or (g ∷ gs) (length (g ∷ gs) - 1) 1 < 10000
 
+-- groups that fit, of which there are some, taken apart
 pub shown : (b : List ℕ) → groups_fit_of b ≡ true → 0 < length b → Shown b
 shown b e some =
     let f = fit_some b e in
@@ -127,9 +134,11 @@ shown b e some =
           last_fits = below_at (g ∷ gs) i k (omega arith);
         }
 
+-- a first group of 0 makes no number
 pub no_first : (h : Header) (b : List ℕ) (s : Shown b) → s.g ≡ 0 → None ≡ rest_of h b
 no_first h b s e = no_end h b (s.g ∷ s.gs) s.are (rw (s.below, e) refl)
 
+-- a last group of 0 makes no number
 pub no_last : (h : Header) (b : List ℕ) (s : Shown b) → get_or (s.g ∷ s.gs) (length (s.g ∷ s.gs) - 1) 1 ≡ 0 → None ≡ rest_of h b
 no_last h b s e = no_end h b (s.g ∷ s.gs) s.are (rw (s.below, e) (and_false (ltb 0 s.g)))
   where
@@ -142,11 +151,13 @@ pub answer : (h : Header) (b : List ℕ) (s : Shown b) (k z : ℕ) → Ends s.g 
 answer h b s k z e =
     ap (λ (r : Option (List ℕ)). option_map is_narrow (r >>= λ gs. only_if (are_groups gs) (value_of h gs))) s.are ∙ decided h s.g s.gs k z e
 
+-- groups past the fraction digits make no number
 pub too_long : (h : Header) (b : List ℕ) (s : Shown b) (k z : ℕ) → Ends s.g s.gs k z
     → h.dscale + z + 4 * (h.lift + 1) < 4 * (length s.gs + 1 + 2 ^ 15) → None ≡ rest_of h b
 too_long h b s k z e lt =
     sym (answer h b s k z e ∙ rw (lt-leb (4 * (length (s.g ∷ s.gs) + 2 ^ 15)) (h.dscale + z + 4 * (h.lift + 1)) (omega arith)) refl)
 
+-- a number is narrow by its count of digits
 pub narrow_if : (h : Header) (b : List ℕ) (s : Shown b) (k z m : ℕ) → Ends s.g s.gs k z
     → 4 * (length s.gs + 1 + 2 ^ 15) ≤ h.dscale + z + 4 * (h.lift + 1) → m ≡ length s.gs → Some (leb (4 * m + k) (38 + z)) ≡ rest_of h b
 narrow_if h b s k z m e le n =
@@ -169,6 +180,7 @@ pub record Counted (f l k z : ℕ) : Type 0 where
   pub few : z ≤ 3
   pub last : (q : ℕ) × (l ≡ q * 10 ^ z) × (q % 10 ≡ 0 → ⊥)
 
+-- what is counted of the first and the last group
 pub ends_are : {b : List ℕ} (s : Shown b) {k z f l : ℕ} → s.g ≡ f → get_or (s.g ∷ s.gs) (length (s.g ∷ s.gs) - 1) 1 ≡ l → Counted f l k z
     → Ends s.g s.gs k z
 ends_are s {k = k} ef el c = record {

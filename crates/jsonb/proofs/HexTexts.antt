@@ -16,6 +16,7 @@ use Rattle.jsonb.specs.HexText.{IsFirstNotHex, IsHexPair, IsHexText}
 abbrev IsHexDigit : ℕ → Type 0
 IsHexDigit c = is_hex_digit c ≡ true
 
+-- hex text has an even length
 pub even_hex : (text bytes : List ℕ) → IsHexText text bytes → length text % 2 ≡ 0
 even_hex [] [] h = refl
 even_hex [] (b ∷ bytes) h = absurd h
@@ -72,6 +73,7 @@ digits_read (x ∷ y ∷ text) even h =
     let rest = digits_read text (omega arith) (All-tail IsHexDigit y text after) in
     (byte.0 ∷ rest.0, (byte.1, rest.1))
 
+-- what is decoded is what the text stands for
 pub decoded_hex : (text bytes : List ℕ) → decode_of text ≡ Ok bytes → IsHexText text bytes
 decoded_hex text bytes e =
     let whole = decode_of-ok text bytes e in
@@ -107,6 +109,7 @@ refused text error e =
           rw there.1 (rw (sym place) (record { even = even_refused text error _ _ e there.1; within = there.2; digits = there.4; here = there.3 }))
     ]
 
+-- why a text is not decoded
 pub tells : (text : List ℕ) (error : FromHexError) → (error ≡ OutOfMemory) ⊎ (decode_of text ≡ Err error) → Tells text error
 tells text error (inl memory) = rw memory tt
 tells text error (inr e) = refused text error e
@@ -126,9 +129,11 @@ first_once (x ∷ text) (suc i) zero lt h e lt' h' e' = absurd (false≢true (sy
 first_once (x ∷ text) (suc i) (suc j) lt h e lt' h' e' =
     ap suc (first_once text i j (omega arith) (All-tail IsHexDigit x (take i text) h) e (omega arith) (All-tail IsHexDigit x (take j text) h') e')
 
+-- there is one first byte that is no digit
 pub one_first : (text : List ℕ) (i j : ℕ) → IsFirstNotHex text i → IsFirstNotHex text j → i ≡ j
 one_first text i j f g = first_once text i j f.within f.digits f.here g.within g.digits g.here
 
+-- hex text has no byte that is no digit
 pub hex_or_not : (text bytes : List ℕ) (place : ℕ) → IsHexText text bytes → IsFirstNotHex text place → ⊥
 hex_or_not text bytes place h first =
     let whole = decode_of-ok text bytes (hex_decodes text bytes h) in

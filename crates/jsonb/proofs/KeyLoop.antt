@@ -18,9 +18,11 @@ regroup f k None = refl
 pub record KeysSoFar (f : Found) (count i : ℕ) (b : Option (List ℕ)) (p start : Place) : Type 0 where
   pub same : keys_after f (keys_at (count - i) b p) ≡ keys_after nothing (keys_at count None start)
 
+-- before the first key
 pub keys_begin : (count : ℕ) (start : Place) → KeysSoFar nothing count 0 None start start
 keys_begin count start = let n : count - 0 ≡ count = omega arith in record { same = ap (λ (k : ℕ). keys_after nothing (keys_at k None start)) n }
 
+-- where no item is, the keys can not be read
 pub key_none : {f : Found} {count i : ℕ} {b : Option (List ℕ)} {p start : Place} → KeysSoFar f count i b p start → i < count
     → None ≡ item_at p → None ≡ keys_after nothing (keys_at count None start)
 unfolding keys_at
@@ -28,6 +30,7 @@ key_none {f = f} {count = count} {i = i} {b = b} {p = p} so_far lt h =
     let one : keys_after f (keys_at (count - i) b p) ≡ None = rw (count_down count i lt, ← h) refl in
     sym one ∙ so_far.same
 
+-- an item that is no key, or does not rise, ends the reading
 pub key_stops : {f : Found} {count i : ℕ} {b : Option (List ℕ)} {p start q : Place} {x : Item} → KeysSoFar f count i b p start → i < count
     → Some (x, q) ≡ item_at p → false ≡ (eqb x.kind 0 && follows b x.piece) → None ≡ keys_after nothing (keys_at count None start)
 unfolding keys_at
@@ -35,6 +38,7 @@ key_stops {f = f} {count = count} {i = i} {b = b} {p = p} so_far lt h bad =
     let one : keys_after f (keys_at (count - i) b p) ≡ None = rw (count_down count i lt, ← h, ← bad) refl in
     sym one ∙ so_far.same
 
+-- one key more
 pub key_goes_on : {f : Found} {count i : ℕ} {b : Option (List ℕ)} {p start q : Place} {x : Item} → KeysSoFar f count i b p start → i < count
     → Some (x, q) ≡ item_at p → true ≡ (eqb x.kind 0 && follows b x.piece)
     → KeysSoFar (both f (text_found x.piece)) count (i + 1) (Some x.piece) q start
@@ -45,6 +49,7 @@ key_goes_on {f = f} {count = count} {i = i} {b = b} {p = p} {q = q} {x = x} so_f
     rw (count_down count i lt, ← h, ← good) (regroup f x.piece rest) in
     record { same = sym one ∙ so_far.same }
 
+-- behind the last key
 pub keys_done : {f : Found} {count i : ℕ} {b : Option (List ℕ)} {p start : Place} → KeysSoFar f count i b p start → count ≤ i
     → Some (f, p) ≡ keys_after nothing (keys_at count None start)
 unfolding keys_at

@@ -230,9 +230,11 @@ module _ (k : List ℕ) (o : JsonbObject) where
       → Outcome o.keys.payload o.keys.count r (lookup k pairs_here) (lookup k (object_seats o))
   outcome_of r e = outcome k o.keys.payload o.keys.count (place o.keys.start) o.stands r e
 
+  -- a key that is not found has no value
   pub no_value : None ≡ behind_key k o.keys.count (place o.keys.start) → None ≡ lookup k (pairs_of (object_tree o))
   no_value e = sym (outcome_of None e).0
 
+  -- nor does a value lie anywhere
   pub no_seat : None ≡ behind_key k o.keys.count (place o.keys.start) → None ≡ lookup k (object_seats o)
   no_seat e = sym (outcome_of None e).1
 
@@ -240,6 +242,7 @@ module _ (k : List ℕ) (o : JsonbObject) where
     found : IsFound o.keys.payload o.keys.count a (lookup k pairs_here) (lookup k (object_seats o))
     found = outcome_of (Some a) e
 
+    -- an object in which a key is found has members
     pub some_members : 0 < o.keys.count
     unfolding behind_key
     some_members = go o.keys.count refl
@@ -248,6 +251,7 @@ module _ (k : List ℕ) (o : JsonbObject) where
         go zero z = let h : ◌≡◌ {A = Option Place} (Some a) None = e ∙ ap (λ (n : ℕ). behind_key k n (place o.keys.start)) z in absurd cc
         go (suc n) z = omega (arith, z)
 
+    -- behind the key that is found come the others
     pub passes_keys : None ≡ skip (o.keys.count - 1) a → ⊥
     passes_keys h = let no : ◌≡◌ {A = Option Place} None (Some found.value) = h ∙ found.passed in cc
 

@@ -35,9 +35,11 @@ module _ (b : List ℕ) (json : IsJsonTree (read b)) where
   none_never : read b ≡ None → ⊥
   none_never e = let h : IsJsonTree None = subst IsJsonTree e json in cc
 
+  -- a container that is read has a header
   pub opens : None ≡ opened b → ⊥
   opens e = none_never (by_opened None e)
 
+  -- a container that is read is no root scalar
   pub not_lone : {c : ℕ} {p : Place} → Some (Lone, c, p) ≡ opened b → ⊥
   not_lone e = none_never (by_opened _ e)
 
@@ -77,25 +79,31 @@ abbrev some_list : List (List ℕ × Tree) → Option (List (List ℕ × Tree))
 some_list l = Some l
 
 module _ (b : List ℕ) (json : IsJsonTree (read b)) {c : ℕ} {p : Place} where
+  -- the elements of an array that was opened are JSON
   pub array_stands : Some (Array, c, p) ≡ opened b → IsJsonTree (array_at c p)
   array_stands e = subst IsJsonTree (sym (array_read b json c p e).2) json
 
+  -- an array that was opened is one
   pub array_is : Some (Array, c, p) ≡ opened b → Some (or_null (array_at c p)) ≡ if_array (or_null (read b))
   array_is e =
       let a = array_read b json c p e in
       ap (λ (r : Option Tree). some (or_null r)) (a.2 ∙ a.1) ∙ ap (λ (r : Option Tree). if_array (or_null r)) (sym a.1)
 
+  -- and no object
   pub array_no_object : Some (Array, c, p) ≡ opened b → None ≡ if_object (or_null (read b))
   array_no_object e = ap (λ (r : Option Tree). if_object (or_null r)) (sym (array_read b json c p e).1)
 
+  -- the members of an object that was opened are JSON
   pub object_stands : Some (Object, c, p) ≡ opened b → IsJsonTree (object_at c p)
   object_stands e = subst IsJsonTree (sym (object_read b json c p e).2) json
 
+  -- an object that was opened is one
   pub object_is : Some (Object, c, p) ≡ opened b → Some (or_null (object_at c p)) ≡ if_object (or_null (read b))
   object_is e =
       let o = object_read b json c p e in
       ap (λ (r : Option Tree). some (or_null r)) (o.2 ∙ o.1) ∙ ap (λ (r : Option Tree). if_object (or_null r)) (sym o.1)
 
+  -- and no array
   pub object_no_array : Some (Object, c, p) ≡ opened b → None ≡ if_array (or_null (read b))
   object_no_array e = ap (λ (r : Option Tree). if_array (or_null r)) (sym (object_read b json c p e).1)
 
@@ -105,6 +113,7 @@ length_trees : (ts : Elements) → length (trees_in ts) ≡ count ts
 length_trees no_elements = refl
 length_trees (element t ts) = ap suc (length_trees ts)
 
+-- an array has as many elements as it counts
 pub array_length : (c : ℕ) (p : Place) → IsJsonTree (array_at c p) → c ≡ length (elements_of (or_null (array_at c p)))
 array_length c p h = go (elements_by read c p) refl h
   where
@@ -124,6 +133,7 @@ pub record Holds (c : ℕ) (p : Place) : Type 0 where
   pub tree : object_at c p ≡ Some (object (members names trees))
   pub counts : length names ≡ count trees
 
+-- an object that is JSON, taken apart
 pub holds : (c : ℕ) (p : Place) → IsJsonTree (object_at c p) → Holds c p
 holds c p h = by_keys (keys_at c None p) refl h
   where
@@ -159,14 +169,17 @@ names_of_pairs (k ∷ ks) no_elements e = absurd cc
 names_of_pairs (k ∷ ks) (element t ts) e = ap (λ (l : List (List ℕ)). k ∷ l) (names_of_pairs ks ts (omega arith))
 
 module _ (c : ℕ) (p : Place) (json : IsJsonTree (object_at c p)) where
+  -- the members of an object are its names and trees
   pub pairs_are : pairs_of (or_null (object_at c p)) ≡ pairs_in (members (holds c p json).names (holds c p json).trees)
   pairs_are = ap (λ (r : Option Tree). pairs_of (or_null r)) (holds c p json).tree
 
+  -- an object has as many members as it counts
   pub object_length : c ≡ length (pairs_of (or_null (object_at c p)))
   object_length =
       let o = holds c p json in
       sym (ap length pairs_are ∙ length_pairs o.names o.trees o.counts ∙ keys_count c p (o.names, o.behind) o.keys_are)
 
+  -- the keys of an object rise
   pub object_rises : rises (map (λ (q : List ℕ × Tree). q.0) (pairs_of (or_null (object_at c p)))) ≡ true
   object_rises =
       let o = holds c p json in
@@ -176,6 +189,7 @@ module _ (c : ℕ) (p : Place) (json : IsJsonTree (object_at c p)) where
 
 -- ---- keys that are read are names, and end where so many items end
 
+-- keys that are read are names, and end where so many items end
 pub keys_names : (n : ℕ) (before : Option (List ℕ)) (p : Place) (r : List (List ℕ) × Place) → keys_at n before p ≡ Some r
     → (names_at n p ≡ Some r) × (skip n p ≡ Some r.1)
 unfolding keys_at names_at skip
@@ -220,9 +234,11 @@ module _ (o : JsonbObject) where
   names_are : (names_at count_of keys_from ≡ Some (parts.names, parts.behind)) × (skip count_of keys_from ≡ Some parts.behind)
   names_are = keys_names count_of None keys_from (parts.names, parts.behind) parts.keys_are
 
+  -- each key has a word
   pub few_members : 4 * o.keys.count ≤ length (place o.keys.start).words
   few_members = skip_words count_of keys_from parts.behind names_are.1
 
+  -- the keys of an object end
   pub passes : None ≡ skip o.keys.count (place o.keys.start) → ⊥
   passes e = let h : ◌≡◌ {A = Option Place} None (Some parts.behind) = e ∙ names_are.1 in cc
 
@@ -234,11 +250,13 @@ module _ (o : JsonbObject) where
         ∙ ap (λ (r : Option (Elements × Place)). r >>= λ r. some (members parts.names r.0))
         (ap (elements_by read count_of) (sym same) ∙ parts.values_are)
 
+    -- behind its keys the members of an object are JSON
     pub members_stand : AreJsonMembers (members_at o.keys.count (place o.keys.start) q)
     members_stand =
         let clean : is_clean (tree_found (object (members parts.names parts.trees))) ≡ true = subst IsJsonTree parts.tree o.stands in
         subst AreJsonMembers (sym members_are) clean
 
+    -- and they are its members
     pub members_pairs : pairs_at o.keys.count (place o.keys.start) q ≡ pairs_of (or_null (object_at o.keys.count (place o.keys.start)))
     members_pairs = ap (λ (r : Option Members). or_none r) members_are ∙ sym (pairs_are count_of keys_from o.stands)
       where
@@ -247,6 +265,7 @@ module _ (o : JsonbObject) where
 
 -- ---- the next member
 
+-- where nothing is found in both, nothing is found in either
 pub both_clean : (f g : Found) → is_clean (both f g) ≡ true → (is_clean f ≡ true) × (is_clean g ≡ true)
 both_clean f g h = go f.not_text f.wide g.not_text g.wide h
   where
@@ -272,10 +291,12 @@ names_some : (n : ℕ) (p p' : Place) (x : Item) → item_at p ≡ Some (x, p') 
 unfolding names_at
 names_some n p p' x e = rw e refl
 
+-- where no item is, no values can be read
 pub values_none : (n : ℕ) (q : Place) → item_at q ≡ None → elements_by read (suc n) q ≡ None
 unfolding elements_by
 values_none n q e = rw e refl
 
+-- the next value, and the others
 pub values_some : (n : ℕ) (q q' : Place) (y : Item) → item_at q ≡ Some (y, q')
     → elements_by read (suc n) q ≡ (item_tree q.at y >>= λ t. elements_by read n q' >>= λ ts. Some (element t ts.0, ts.1))
 unfolding elements_by
@@ -292,6 +313,7 @@ both_none : (a : Option (List (List ℕ) × Place)) → both_of a None ≡ None
 both_none None = refl
 both_none (Some k) = refl
 
+-- members that are JSON, one more: the member, and the others
 pub next_member : (n : ℕ) (p p' q q' : Place) (x y : Item) → item_at p ≡ Some (x, p') → item_at q ≡ Some (y, q')
     → AreJsonMembers (members_at (suc n) p q) → NextMember n p q x y p' q'
 next_member n p p' q q' x y e f json = go (names_at n p') refl (item_tree q.at y) refl (elements_by read n q') refl (subst AreJsonMembers made json)
@@ -363,6 +385,7 @@ module _ (m : JsonbMembers) (some_left : 0 < m.values.count) where
   full : AreJsonMembers (members_at (suc more_left) key_here value_here)
   full = subst (λ (k : ℕ). AreJsonMembers (members_at k key_here value_here)) (sym (less_one m.values.count some_left)) m.stands
 
+  -- where members are left, there is an item for the key
   pub keys_go_on : None ≡ item_at (place m.keys) → ⊥
   keys_go_on e =
       let no_names = names_none more_left key_here (sym e) in
@@ -370,6 +393,7 @@ module _ (m : JsonbMembers) (some_left : 0 < m.values.count) where
       subst AreJsonMembers (ap (λ (a : Option (List (List ℕ) × Place)). both_of a (elements_by read (suc more_left) value_here)) no_names) full in
       cc
 
+  -- and one for the value
   pub values_go_on : None ≡ item_at (place m.values.start) → ⊥
   values_go_on e =
       let names = names_at (suc more_left) key_here in
@@ -377,6 +401,7 @@ module _ (m : JsonbMembers) (some_left : 0 < m.values.count) where
       let h : AreJsonMembers None = subst AreJsonMembers (ap (both_of names) no_values ∙ both_none names) full in
       cc
 
+  -- the next member, and those that are left behind it
   pub member_is : {x y : Item} {p q : Place} → Some (x, p) ≡ item_at (place m.keys) → Some (y, q) ≡ item_at (place m.values.start)
       → NextMember (m.values.count - 1) (place m.keys) (place m.values.start) x y p q
   member_is {x = x} {y = y} {p = p} {q = q} e f = next_member more_left key_here p value_here q x y (sym e) (sym f) full

@@ -18,6 +18,7 @@ one_more header entries i lt =
     sym (flat_map-append (to_le_bytes w32) (header ∷ take i entries) (w ∷ []))
     ∙ ap (λ (xs : List ℕ). words (header ∷ xs)) (sym (take-suc entries i 0 lt) ∙ ap (λ (n : ℕ). take n entries) next)
 
+-- all words are written, and the payload behind them
 pub all_words : (header : ℕ) (entries payload items more : List ℕ) (i : ℕ) → length entries ≤ i → items ≡ words (header ∷ take i entries)
     → more ≡ items ++ payload → more ≡ words (header ∷ entries) ++ payload
 all_words header entries payload items more i past h k =
@@ -41,6 +42,7 @@ one_deeper items n inner e =
     ∙ append_assoc items a (b ++ nested_bytes n)
     ∙ ap (λ (k : ℕ). items ++ (a ++ (to_le_bytes w32 (2 ^ 31 + 5 * 2 ^ 28 + k) ++ nested_bytes n))) e
 
+-- one array more is written around what is left
 pub goes_deeper : (depth level : ℕ) (items one two : List ℕ) → level < depth → items ++ nested_bytes (depth - level) ≡ nested_bytes depth
     → one ≡ items ++ to_le_bytes w32 (4 * 2 ^ 28 + 1) → two ≡ one ++ to_le_bytes w32 (2 ^ 31 + 5 * 2 ^ 28 + (8 * (depth - level) - 4))
     → two ++ nested_bytes (depth - (level + 1)) ≡ nested_bytes depth
@@ -79,6 +81,7 @@ laid_around n lt =
           (sym (append-nil (nested_bytes n)));
     }
 
+-- the bytes stand for arrays in arrays
 pub nested_stands : (n : ℕ) → n ≤ 2 ^ 25 → Stands (nested_bytes n) (nested_arrays n)
 nested_stands zero le = ([], record { count = 0; counted = refl; count_fits = omega arith; kinds = tt; pieces_fit = omega arith; bytes = refl }, tt)
 nested_stands (suc n) le = (around n ∷ [], laid_around n (omega (arith, le)), (is_inside n (nested_stands n (omega (arith, le))), tt))

@@ -153,6 +153,7 @@ behind p body h b d e f g = rw (← f, ← g) at e
 
 -- ---- what the code meets
 
+-- a number that is read has a body
 pub body_there : (p : List ℕ) → IsJsonTree (tree_at kinds.Number p) → None ≡ varlena_of p → ⊥
 unfolding numeric_of
 body_there p json e =
@@ -160,6 +161,7 @@ body_there p json e =
     let r = n.reads in
     let h : ◌≡◌ {A = Option Decimal} None (Some d) = rw (← e) at r in cc
 
+-- and a header
 pub header_there : (p body : List ℕ) → IsJsonTree (tree_at kinds.Number p) → Some body ≡ varlena_of p → None ≡ header_of body → ⊥
 unfolding numeric_of
 header_there p body json e f =

@@ -158,12 +158,15 @@ module _ (at : ℕ) (x : Item) (json : IsJsonTree (item_tree at x)) where
       ∙ ap (λ (b : List ℕ). some (or_null (value_of k.0 b))) k.2.own
       ∙ k.2.owned.same
 
+  -- an item that is read has a kind
   pub kind_there : None ≡ kind_of x.kind → ⊥
   kind_there e = let k = kind_cases x.kind kind_small refl in let h : ◌≡◌ {A = Option Kind} None (Some k.0) = e ∙ k.1 in cc
 
+  -- what the kind of an item says of it
   pub kind_is : (k : Kind) → Some k ≡ kind_of x.kind → KindIs k
   kind_is k e = let c = kind_cases x.kind kind_small refl in subst KindIs (some_is c.0 k (sym c.1 ∙ sym e)) c.2
 
+  -- where a node is made, its item lies
   pub seat_is : (word begin place : ℕ) (k : Kind) (own : List ℕ) → Some k ≡ kind_of x.kind → own ≡ own_of k at x.piece
       → place ≡ where_it_is own word (begin + (length x.piece - length own)) → seat_by place (kind_number k) own ≡ seat_of word begin at x
   seat_is word begin place k own e f g =
@@ -173,6 +176,7 @@ module _ (at : ℕ) (x : Item) (json : IsJsonTree (item_tree at x)) where
       ∙ ap (λ (n : ℕ). seat_by (where_it_is (own_bytes at x) word (begin + (length x.piece - length (own_bytes at x)))) n (own_bytes at x))
       (sym is.number)
 
+-- the own bytes of a short piece are short
 pub short_own : (k : Kind) (at : ℕ) (piece : List ℕ) → length piece < 2 ^ 28 → is_short k (own_of k at piece) ≡ true
 short_own kinds.String at piece lt = refl
 short_own kinds.Number at piece lt = lt-ltb (length (drop (pad at) piece)) (2 ^ 28) (omega (arith, length-drop (pad at) piece))

@@ -46,6 +46,7 @@ module _ (bytes : List ℕ) (m n : JsonbNode) (v w : List ℕ) (h : IsSeat bytes
       one_pair bytes v w (node_seat m) (node_seat n) h k
       (pair_same (node_identity m).address (node_identity n).address (node_identity m).tag (node_identity n).tag e f)
 
+  -- two nodes have one identity exactly where they are one place
   pub same_identity : (node_identity m ≡ node_identity n) ↔ (v ≡ w)
   same_identity = (λ e. same_numbers (ap (λ (i : NodeIdentity). i.address) e) (ap (λ (i : NodeIdentity). i.tag) e), again)
 
@@ -93,6 +94,7 @@ module _ (k : Kind) (b : List ℕ) where
   stands_value (array ts) (e, (q, f, h)) = by_kind kinds.Container (array ts) e (ap read f ∙ read_again q (array ts) h)
   stands_value (object ms) (e, (q, f, h)) = by_kind kinds.Container (object ms) e (ap read f ∙ read_again q (object ms) h)
 
+-- a node has the tree of its place
 pub tree_of_place : (bytes : List ℕ) (n : JsonbNode) (t : Tree) (way : List ℕ) → Stands bytes t → IsSeat bytes way (node_seat n)
     → tree_at way t ≡ Some (node_tree n)
 tree_of_place bytes n t way h k =

@@ -30,6 +30,7 @@ use Rattle.jsonb.proofs.TreeCauses.{of_text, of_narrow, text_of, json_of, differ
 
 -- ---- what is computed is the relation
 
+-- what is computed is what a user believes, but for want of memory
 pub answers : (b : List ℕ) → IsBytes b → (r : Result JsonbNode JsonbError) → Reads (tree_of b) r
     → (r ≡ Err errors.OutOfMemory) ⊎ IsRead b (read_tree r)
 answers b fits (Ok n) (e, clean) = inr (tree_takes b (node_tree n) fits e, json_of (node_tree n) clean)
@@ -47,6 +48,7 @@ answers b fits (Err errors.NumberTooWide) h = inr (go (tree_of b) refl h)
     go (Some t) e h = (t, tree_takes b t fits e, text_of t h.0, λ narrow. differ (tree_found t).wide h.1 (of_narrow t narrow))
 answers b fits (Err errors.OutOfMemory) h = inl refl
 
+-- a flat slice never wants memory
 pub never_wants : (b : List ℕ) (r : Result JsonbNode JsonbError) → Reads (tree_of b) r → (t : Tree) → Stands b t → nest t ≤ 1
     → r ≡ Err errors.OutOfMemory → ⊥
 never_wants b (Ok n) h t s low e = absurd cc
@@ -57,6 +59,7 @@ never_wants b (Err errors.OutOfMemory) h t s low e = h t (tree_again b t s) low
 
 -- ---- a root scalar
 
+-- the tree of a root scalar is that of its item
 pub lone_root : (b : List ℕ) (x : Item) → Some x ≡ lone_item b → tree_of b ≡ lone_tree x
 unfolding tree_of lone_item
 lone_root b x e =
@@ -103,6 +106,7 @@ lone_found x f e = go (scalar_of 0 x) e
     go None e = absurd cc
     go (Some s) e = sym e
 
+-- a root scalar in which nothing is found is JSON
 pub lone_json : (x : Item) (f : Found) → Some f ≡ option_map scalar_found (scalar_of 0 x) → is_clean f ≡ true → IsJsonTree (lone_tree x)
 lone_json x f e clean = go (lone_tree x) (lone_found x f e)
   where
@@ -117,6 +121,7 @@ lone_none x e = go (scalar_of 0 x) e
     go None e = refl
     go (Some s) e = absurd cc
 
+-- its tree is that of an item at the front of a payload
 pub lone_is_item : (x : Item) (f : Found) → Some f ≡ option_map scalar_found (scalar_of 0 x) → lone_tree x ≡ item_tree 0 x
 lone_is_item x f e = go (scalar_of 0 x) refl e
   where
@@ -124,6 +129,7 @@ lone_is_item x f e = go (scalar_of 0 x) refl e
     go None h e = absurd cc
     go (Some s) h e = sym (rw (ne_eqb x.kind 5 (not_five x s h)) refl)
 
+-- its node has its tree
 pub lone_node : (x : Item) (f : Found) (n : JsonbNode) → Some f ≡ option_map scalar_found (scalar_of 0 x) → is_clean f ≡ true
     → Some (node_tree n) ≡ item_tree 0 x → (lone_tree x ≡ Some (node_tree n)) × (is_clean (tree_found (node_tree n)) ≡ true)
 lone_node x f n e clean same =
@@ -135,11 +141,13 @@ lone_node x f n e clean same =
 abbrev pub whole : List ℕ → Seat
 whole b = record { at = 0; kind = 5; bytes = b }
 
+-- a container is the root of its slice
 pub container_root : (b : List ℕ) → IsBytes b → (r : Result JsonbNode JsonbError) → Reads (read b) r → IfOk r (λ n. node_seat n ≡ whole b)
     → IfOk r (λ n. IsRoot b (node_seat n))
 container_root b fits (Ok n) h e = subst (IsRoot b) (sym e) (container_is_root b (node_tree n) fits h.0)
 container_root b fits (Err x) h e = tt
 
+-- a root scalar lies where its item does
 pub scalar_root : (b : List ℕ) (x : Item) → IsBytes b → Some x ≡ lone_item b → (r : Result JsonbNode JsonbError)
     → IfOk r (λ n. node_seat n ≡ item_seat 0 1 [] x) → IfOk r (λ n. IsRoot b (node_seat n))
 scalar_root b x fits e (Ok n) h = subst (IsRoot b) (sym h) (lone_is_root b x fits (sym e))

@@ -21,6 +21,7 @@ use Rattle.jsonb.specs.declared.object.JsonbObject.{JsonbObject}
 abbrev pub seats_behind : ℕ → ℕ → Place → List (List ℕ × Seat)
 seats_behind s c p = or_no_members (skip c p >>= λ q. Some (member_seats s c p q))
 
+-- the members of an object, where its keys end
 pub seats_behind_is : (s c : ℕ) (p q : Place) → Some q ≡ skip c p → member_seats s c p q ≡ seats_behind s c p
 seats_behind_is s c p q e = ap (λ (r : Option Place). or_no_members (r >>= λ q. Some (member_seats s c p q))) e
 
@@ -28,10 +29,12 @@ abbrev holder : ℕ → List ℕ → Seat
 holder at b = record { at = at; kind = 5; bytes = b }
 
 module _ (at s : ℕ) (b : List ℕ) (json : IsJsonTree (read b)) {c : ℕ} {p : Place} where
+  -- an array holds its elements where they are said to lie
   pub array_holds : Some (Array, c, p) ≡ opened b → IsBytes b → s ≡ at + 4 + length p.words → AreHeld (holder at b) (seats_at s c p)
   array_holds e fits is =
       subst (λ (n : ℕ). AreHeld (holder at b) (seats_at n c p)) (sym is) (array_held at c b p _ fits (sym e) (array_read b json c p e).1)
 
+  -- an object holds its values where they are said to lie
   pub object_holds : Some (Object, c, p) ≡ opened b → IsBytes b → s ≡ at + 4 + length p.words → AreHeld (holder at b) (values_of (seats_behind s c p))
   object_holds e fits is =
       let o = holds c p (object_stands b json e) in

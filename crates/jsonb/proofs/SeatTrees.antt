@@ -28,6 +28,7 @@ use Rattle.jsonb.proofs.OwnLaws.{seat_has_tree}
 use Rattle.jsonb.specs.inner.Views.{place}
 use Rattle.jsonb.specs.declared.items.Items.{Items}
 
+-- the kind of a number of a kind is that kind
 pub number_kind : (k : Kind) → kind_of (kind_number k) ≡ Some k
 number_kind kinds.String = refl
 number_kind kinds.Number = refl
@@ -59,6 +60,7 @@ seats_go_on i {x = x} {q = q} lt e =
     ap (λ (k : ℕ). seats_at i.payload k (place i.start)) (sym (less_one i.count lt))
     ∙ seats_step i.payload (i.count - 1) (place i.start) q x (sym e)
 
+-- where no items are left, nothing lies
 pub no_seats_left : (i : Items) → i.count ≡ 0 → seats_at i.payload i.count (place i.start) ≡ []
 unfolding seats_at
 no_seats_left i e = ap (λ (k : ℕ). seats_at i.payload k (place i.start)) e
@@ -67,6 +69,7 @@ no_elements_seats : (s : ℕ) (p : Place) → map seat_tree (seats_at s zero p) 
 unfolding seats_at elements_by
 no_elements_seats s p = refl
 
+-- what lies where the elements do are their trees
 pub element_seats : (s n : ℕ) (p : Place) → IsJsonTree (array_at n p) → map seat_tree (seats_at s n p) ≡ elements_of (or_null (array_at n p))
 element_seats s zero p json = no_elements_seats s p
 element_seats s (suc n) p json =
@@ -79,6 +82,7 @@ element_seats s (suc n) p json =
 
 -- ---- members
 
+-- the first of so many members, and the others
 pub members_step : (s n : ℕ) (p q : Place) {p' q' : Place} {x y : Item} → item_at p ≡ Some (x, p') → item_at q ≡ Some (y, q')
     → member_seats s (suc n) p q ≡ (x.piece, seat_at s q y) ∷ member_seats s n p' q'
 unfolding member_seats
@@ -92,6 +96,7 @@ members_go_on m {x = x} {y = y} {p = p} {q = q} lt e f =
     ap (λ (k : ℕ). member_seats m.values.payload k (place m.keys) (place m.values.start)) (sym (less_one m.values.count lt))
     ∙ members_step m.values.payload (m.values.count - 1) (place m.keys) (place m.values.start) (sym e) (sym f)
 
+-- where no members are left, nothing lies
 pub no_members_left : (m : JsonbMembers) → m.values.count ≡ 0 → members_left m ≡ []
 unfolding member_seats
 no_members_left m e = ap (λ (k : ℕ). member_seats m.values.payload k (place m.keys) (place m.values.start)) e
@@ -100,6 +105,7 @@ no_member_trees : (s : ℕ) (p q : Place) → map member_tree (member_seats s ze
 unfolding member_seats names_at elements_by
 no_member_trees s p q = refl
 
+-- what lies where the members do are their trees
 pub member_trees : (s n : ℕ) (p q : Place) → AreJsonMembers (members_at n p q) → map member_tree (member_seats s n p q) ≡ pairs_at n p q
 member_trees s zero p q json = no_member_trees s p q
 member_trees s (suc n) p q json =
@@ -133,6 +139,7 @@ elements_given c ts e =
     subst (λ (us : List Tree). Gives (YieldsFirstBy node_seat seats_left) node_tree c us) e
     (gives_through node_seat seats_left seat_tree node_tree node_is_seat c)
 
+-- the members that are left have the trees of where they lie
 pub members_given : (m : JsonbMembers) (ps : List (List ℕ × Tree)) → map member_tree (members_left m) ≡ ps
     → Gives (YieldsFirstBy member_seat members_left) pair_tree m ps
 members_given m ps e =

@@ -34,6 +34,7 @@ module _ (frame : Frame) (old new : List Frame) (none : frame.left ≡ 0) (over 
     flat = flat;
   }
 
+  -- a frame that is ended: the one that was put off last is next
   pub popped : (next : Option Frame) (len after : ℕ) → old ≡ new ++ option_to_list next → new ≡ take (len - 1) old
       → MatchOption next ((len ≡ 0) × (after ≡ 0)) (λ _. after + 1 ≡ len) → Moves frame old new nothing next
   popped None len after e rest cases =
@@ -79,6 +80,7 @@ module _ {frame : Frame} (next : NextItem frame) where
   no_inside_there : (g : Found) → frame_found frame ≡ Some g → HoldsScalars frame → IsInside here.at next.item → ⊥
   no_inside_there g there flat inside = no_inside left g there flat inside
 
+  -- a value that can not be read
   pub refused_item : option_map tree_found (item_tree (place frame.start).at next.item) ≡ None → frame_found frame ≡ None
   refused_item e =
       rest_some frame.left here more next.item next.behind next.reads
@@ -91,6 +93,7 @@ module _ {frame : Frame} (next : NextItem frame) where
         ∙ ap (λ (a : Option Found). combine a others) value.is
         ∙ combine_assoc (Some value.found) (next_found value.inner) others
 
+    -- a scalar was taken: the rest of the frame is next
     pub took_scalar : (old : List Frame) (rest : Frame) → rest.left ≡ frame.left - 1 → place rest.start ≡ next.behind → value.inner ≡ None
         → Moves frame old old value.found (Some rest)
     took_scalar old rest left_is at none =
@@ -110,6 +113,7 @@ module _ {frame : Frame} (next : NextItem frame) where
           flat = λ g there flat o. (o, λ r h. stays_flat left g there flat r (elements_are ∙ h));
         }
 
+    -- a container was entered: its frame is next, and the rest is put off
     pub took_inside : (old new : List Frame) (i : Frame) → value.inner ≡ Some i → IsInside (place frame.start).at next.item
         → next_weight value.inner ≤ length next.item.piece → frames_found new ≡ combine (rest_found (frame.left - 1) next.behind) (frames_found old)
         → frames_weight new ≤ size next.behind + 1 + frames_weight old → Moves frame old new value.found (Some i)
@@ -126,6 +130,7 @@ module _ {frame : Frame} (next : NextItem frame) where
       flat = λ g there flat o. absurd (no_inside_there g there flat inside);
     }
 
+    -- why the rest could not be put off
     pub not_put_off : (e : JsonbError) → IsInside (place frame.start).at next.item → SuspendCause (rest_found (frame.left - 1) next.behind) e
         → StepCause frame e
     not_put_off errors.Malformed inside h =
@@ -136,20 +141,24 @@ module _ {frame : Frame} (next : NextItem frame) where
     not_put_off errors.NumberTooWide inside h = h
     not_put_off errors.OutOfMemory inside h = λ g there flat. no_inside_there g there flat inside
 
+-- what is said of a frame inside, where there is one
 pub inside_is : (inner : Option Frame) (i : Frame) (P : Type 0) → inner ≡ Some i → IfSome inner (λ _. P) → P
 inside_is None i P e h = absurd cc
 inside_is (Some j) i P e h = h
 
+-- a frame without its next item can not be read
 pub no_item : (frame : Frame) → (frame.left ≡ 0 → ⊥) → None ≡ item_at (place frame.start) → frame_found frame ≡ None
 no_item frame some e = rest_none frame.left (place frame.start) (omega arith) e
 
 -- ---- all steps
 
+-- f is found so far; current is read next, and then what is suspended
 pub record SoFar (b : List ℕ) (found : Found) (current : Option Frame) (suspended : List Frame) : Type 0 where
   pub so_far : combine (Some found) (combine (next_found current) (frames_found suspended)) ≡ container_found b
   pub last : current ≡ None → suspended ≡ []
   pub flat : (t : Tree) → read b ≡ Some t → nest t ≤ 1 → (suspended ≡ []) × IfSome current HoldsScalars
 
+-- before the first step
 pub starts : (b : List ℕ) (f : Found) (top : Frame) (none : List Frame) → none ≡ [] → container_found b ≡ combine (Some f) (frame_found top)
     → ((t : Tree) → read b ≡ Some t → nest t ≤ 1 → HoldsScalars top) → SoFar b f (Some top) none
 starts b f top none empty e flat = record {
@@ -177,6 +186,7 @@ module _ {b : List ℕ} {found : Found} {frame : Frame} {current : Option Frame}
   flat_frame : (t : Tree) → read b ≡ Some t → nest t ≤ 1 → (old ≡ []) × HoldsScalars frame
   flat_frame t is low = let f = s.flat t is low in (f.0, subst (λ (n : Option Frame). IfSome n HoldsScalars) now f.1)
 
+  -- a step more
   pub goes_on : (new : List Frame) (f : Found) (next : Option Frame) → Moves frame old new f next → SoFar b (both found f) next new
   goes_on new f next step = record {
     so_far =
@@ -187,16 +197,19 @@ module _ {b : List ℕ} {found : Found} {frame : Frame} {current : Option Frame}
     flat = λ t is low. let o = flat_frame t is low in let g = there t is in step.flat g.0 g.1 o.1 o.0;
   }
 
+  -- each step leaves less
   pub goes_down : (new : List Frame) (f : Found) (next : Option Frame) → Moves frame old new f next
       → next_weight next + frames_weight new < next_weight current + frames_weight old
   goes_down new f next step = omega (arith, step.smaller, ap next_weight now)
 
+  -- why the reading stops
   pub stops : (e : JsonbError) → StepCause frame e → Searched b (Err e)
   stops errors.Malformed h = sym at_frame ∙ ap (λ (a : Option Found). combine (Some found) (combine a (frames_found old))) h
   stops errors.NotText h = h
   stops errors.NumberTooWide h = h
   stops errors.OutOfMemory h = λ t is low. let g = there t is in h g.0 g.1 (flat_frame t is low).1
 
+-- where nothing is left, all is found
 pub ends : (b : List ℕ) (found : Found) (current : Option Frame) (suspended : List Frame) → current ≡ None → SoFar b found current suspended
     → container_found b ≡ Some found
 ends b found current suspended none s =
@@ -205,6 +218,7 @@ ends b found current suspended none s =
     ∙ ap (λ (fs : List Frame). combine (Some found) (combine (Some nothing) (frames_found fs))) (s.last none)
     ∙ combine_nothing (Some found)
 
+-- what is no frame is none
 pub none_of : (n : Option Frame) → ((f : Frame) → n ≡ Some f → ⊥) → n ≡ None
 none_of None h = refl
 none_of (Some f) h = absurd (h f refl)

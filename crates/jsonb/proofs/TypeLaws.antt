@@ -37,6 +37,7 @@ container_type b json = go (opened b) refl
     go (Some o) e = said o.0 o.1 o.2 e ∙ by_form o.0 o.1 o.2 e
 
 module _ (k : Kind) (b : List ℕ) (stands : IsJsonTree (value_of k b)) where
+  -- the type of a number
   pub number_type : k ≡ kinds.Number → types.Number ≡ type_of (or_null (value_of k b))
   number_type e = go (or_null (value_of k b)) (subst (λ (j : Kind). TreeIs j (or_null (value_of k b))) e (tree_is k b stands))
     where
@@ -49,12 +50,15 @@ module _ (k : Kind) (b : List ℕ) (stands : IsJsonTree (value_of k b)) where
       let json = container_stands k b stands e in
       ap (λ (t : Bool). cond t types.Object types.Array) h ∙ container_type b json ∙ ap (λ (j : Kind). type_of (or_null (value_of j b))) (sym e)
 
+  -- the type of a container whose header word says object
   pub object_type : k ≡ kinds.Container → true ≡ says_object (form_at b) → types.Object ≡ type_of (or_null (value_of k b))
   object_type e h = typed e true h
 
+  -- and of one whose header word says array
   pub array_type : k ≡ kinds.Container → false ≡ says_object (form_at b) → types.Array ≡ type_of (or_null (value_of k b))
   array_type e h = typed e false h
 
+  -- only a string has a length
   pub no_length : (k ≡ kinds.String → ⊥) → None ≡ option_map (λ s. length (points s)) (as_string (or_null (value_of k b)))
   no_length h = ap (option_map (λ s. length (points s))) (no_string k b stands h)
 

@@ -16,11 +16,13 @@ pub record IsBehind (p q : Place) : Type 0 where
   pub words : length q.words ≤ length p.words
   pub end : q.at + length q.rest ≡ p.at + length p.rest
 
+-- the place behind an item is behind it
 pub item_behind : {p q : Place} {x : Item} → Some (x, q) ≡ item_at p → IsBehind p q
 item_behind {p = p} {q = q} {x = x} e =
     let t = item_takes p q x (sym e) in
     record { words = omega (arith, t.words); end = omega (arith, t.at, t.piece) }
 
+-- behind what is behind
 pub behind_both : {p q r : Place} → IsBehind p q → IsBehind q r → IsBehind p r
 behind_both a b = record { words = omega (arith, a.words, b.words); end = b.end ∙ a.end }
 
@@ -70,15 +72,18 @@ key_behind k (suc n) p q e =
 pub record Passes (count i : ℕ) (p start : Place) : Type 0 where
   pub same : skip (count - i) p ≡ skip count start
 
+-- before the first item
 pub pass_begins : (count : ℕ) (start : Place) → Passes count 0 start start
 pass_begins count start = let n : count - 0 ≡ count = omega arith in record { same = ap (λ (k : ℕ). skip k start) n }
 
+-- where no item is, so many can not be passed
 pub pass_stops : {count i : ℕ} {p start : Place} → Passes count i p start → i < count → None ≡ item_at p → None ≡ skip count start
 unfolding skip
 pass_stops {count = count} {i = i} {p = p} so_far lt e =
     let one : skip (count - i) p ≡ None = rw (count_down count i lt, ← e) refl in
     sym one ∙ so_far.same
 
+-- one item more
 pub pass_goes_on : {count i : ℕ} {p start q : Place} {x : Item} → Passes count i p start → i < count → Some (x, q) ≡ item_at p
     → Passes count (i + 1) q start
 unfolding skip
@@ -86,6 +91,7 @@ pass_goes_on {count = count} {i = i} {p = p} {q = q} so_far lt e =
     let one : skip (count - i) p ≡ skip (count - (i + 1)) q = rw (count_down count i lt, ← e) refl in
     record { same = sym one ∙ so_far.same }
 
+-- behind the last item
 pub pass_ends : {count i : ℕ} {p start : Place} → Passes count i p start → count ≤ i → Some p ≡ skip count start
 unfolding skip
 pass_ends {count = count} {i = i} {p = p} so_far le =
@@ -99,9 +105,11 @@ pass_ends {count = count} {i = i} {p = p} so_far le =
 pub record Seeks (k : List ℕ) (count i : ℕ) (p start : Place) : Type 0 where
   pub same : behind_key k (count - i) p ≡ behind_key k count start
 
+-- before the first key
 pub seek_begins : (k : List ℕ) (count : ℕ) (start : Place) → Seeks k count 0 start start
 seek_begins k count start = let n : count - 0 ≡ count = omega arith in record { same = ap (λ (m : ℕ). behind_key k m start) n }
 
+-- where no item is, no key is found
 pub seek_stops : {k : List ℕ} {count i : ℕ} {p start : Place} → Seeks k count i p start → i < count → None ≡ item_at p
     → None ≡ behind_key k count start
 unfolding behind_key
@@ -109,6 +117,7 @@ seek_stops {k = k} {count = count} {i = i} {p = p} so_far lt e =
     let one : behind_key k (count - i) p ≡ None = rw (count_down count i lt, ← e) refl in
     sym one ∙ so_far.same
 
+-- a key that is the one that is sought
 pub seek_finds : {k : List ℕ} {count i : ℕ} {p start q : Place} {x : Item} → Seeks k count i p start → i < count → Some (x, q) ≡ item_at p
     → true ≡ bytes_eq k x.piece → Some q ≡ behind_key k count start
 unfolding behind_key
@@ -116,6 +125,7 @@ seek_finds {k = k} {count = count} {i = i} {p = p} {q = q} so_far lt e same =
     let one : behind_key k (count - i) p ≡ Some q = rw (count_down count i lt, ← e, ← same) refl in
     sym one ∙ so_far.same
 
+-- a key that is another
 pub seek_goes_on : {k : List ℕ} {count i : ℕ} {p start q : Place} {x : Item} → Seeks k count i p start → i < count → Some (x, q) ≡ item_at p
     → false ≡ bytes_eq k x.piece → Seeks k count (i + 1) q start
 unfolding behind_key
@@ -123,6 +133,7 @@ seek_goes_on {k = k} {count = count} {i = i} {p = p} {q = q} so_far lt e other =
     let one : behind_key k (count - i) p ≡ behind_key k (count - (i + 1)) q = rw (count_down count i lt, ← e, ← other) refl in
     record { same = sym one ∙ so_far.same }
 
+-- behind the last key none is found
 pub seek_ends : {k : List ℕ} {count i : ℕ} {p start : Place} → Seeks k count i p start → count ≤ i → None ≡ behind_key k count start
 unfolding behind_key
 seek_ends {k = k} {count = count} {i = i} {p = p} so_far le =

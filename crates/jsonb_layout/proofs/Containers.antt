@@ -22,6 +22,7 @@ IsContainer (scalar s) b = ⊥
 IsContainer (array ts) b = IsArray (AreElements ts) b
 IsContainer (object ms) b = IsObject (keys ms) (AreValues ms) b
 
+-- what is read stands for what it is read to
 abbrev pub Takes : (List ℕ → Option Tree) → Type 0
 Takes inside = (b : List ℕ) (t : Tree) → IsBytes b → inside b ≡ Some t → IsContainer t b
 
@@ -45,6 +46,7 @@ item_takes_tree inside ok at x t fits e = elim (chosen (eqb x.kind 5) (unpadded 
       subst (λ (y : Tree). IsItem y at x) (some_is (scalar a.0) t a.2) (scalar_takes at x a.0 fits a.1)
 ]
 
+-- a scalar has another kind than 5
 pub not_five : (s : Scalar) (at : ℕ) (x : Item) → IsScalar s at x → x.kind ≡ 5 → ⊥
 not_five null at x h e = omega (arith, h.0)
 not_five (boolean true) at x h e = omega (arith, h.0)
@@ -66,6 +68,7 @@ item_again_tree inside n ok at x (object ms) lt h = held_again inside n ok at x 
 
 -- ---- runs
 
+-- how many elements there are
 abbrev pub count : Elements → ℕ
 count no_elements = 0
 count (element t ts) = suc (count ts)
@@ -75,8 +78,10 @@ pub record TreeRun (p q : Place) (ts : Elements) (n : ℕ) : Type 0 where
   pub run : Run p q items
   pub fit : Fit q
   pub trees : AreElements ts p.at items
+  -- how many elements there are
   pub count : length items ≡ n
 
+-- elements that are read are laid
 pub elements_take : (inside : List ℕ → Option Tree) → Takes inside → (n : ℕ) (p : Place) (r : Elements × Place) → Fit p
     → elements_by inside n p ≡ Some r → TreeRun p r.1 r.0 n
 unfolding elements_by
@@ -186,6 +191,7 @@ held_takes inside ok b Object c p t o fit e =
     (subst (λ (m : List (List ℕ)). IsObject m (AreValues (members k.0.0 a.0.0)) b) (sym (keys_are k.0.0 a.0.0 same)) object_is)
 held_takes inside ok b Lone c p t o fit e = absurd cc
 
+-- a container that is read stands for its tree
 pub container_takes : (fuel : ℕ) → Takes (container_of fuel)
 unfolding container_of
 container_takes zero b t fits e = absurd cc
@@ -251,10 +257,12 @@ stands_container (scalar s) b h = absurd h
 stands_container (array ts) b h = h
 stands_container (object ms) b h = h
 
+-- the same without fuel
 pub read_takes : (b : List ℕ) (t : Tree) → IsBytes b → read b ≡ Some t → Stands b t
 unfolding read
 read_takes b t fits e = stands_container t b (container_takes (suc (length b)) b t fits e)
 
+-- a container that stands for a tree is read to it
 pub read_again : (b : List ℕ) (t : Tree) → IsContainer t b → read b ≡ Some t
 unfolding read
 read_again b t h = container_again (suc (length b)) b t (omega arith) h

@@ -13,6 +13,7 @@ use Rattle.jsonb_layout.proofs.Openings.{length-words, length-entries}
 
 -- ---- lists of items
 
+-- the pieces of two runs of items
 pub pieces-append : (xs ys : List Item) → length (pieces (xs ++ ys)) ≡ length (pieces xs) + length (pieces ys)
 pieces-append xs ys = ap length (flat_map-append (λ (x : Item). x.piece) xs ys) ∙ length-append (pieces xs) (pieces ys)
 
@@ -51,6 +52,7 @@ extent_of : List ℕ → ℕ
 extent_of [] = 4
 extent_of (b ∷ bs) = length (b ∷ bs)
 
+-- how many bytes a value takes, at the least one
 pub extent : Seat → ℕ
 extent s = extent_of s.bytes
 
@@ -59,6 +61,7 @@ unfolding extent_of
 some_long [] = omega arith
 some_long (b ∷ bs) = omega arith
 
+-- no value takes none
 pub extent_some : (s : Seat) → 0 < extent s
 unfolding extent
 extent_some s = some_long s.bytes
@@ -109,6 +112,7 @@ pub record Child (s : Seat) (form : Form) (front back : List Item) (x : Item) (c
   pub laid : Laid s.bytes form (front ++ (x ∷ back))
   pub seat : c ≡ item_seat s.at (length (front ++ (x ∷ back))) front x
 
+-- a value that is held, as one item among the others
 pub child : (s : Seat) (i : ℕ) (c : Seat) (h : Holds s i c) → Child s h.form (h.keys ++ h.before) h.after h.item c
 child s i c h =
     let all : h.keys ++ (h.before ++ (h.item ∷ h.after)) ≡ (h.keys ++ h.before) ++ (h.item ∷ h.after) =
@@ -124,6 +128,7 @@ child_lies s f front back x c h =
     let n = length (front ++ (x ∷ back)) in
     subst (λ (d : Seat). Lies s.at n (length front) (length (pieces front)) (length x.piece) d) (sym h.seat) (lies s.at n front x)
 
+-- how long a container is
 pub laid_length : (b : List ℕ) (f : Form) (xs : List Item) → Laid b f xs → length b ≡ 4 + 4 * length xs + length (pieces xs)
 laid_length b f xs l =
     let ws = (flags f * 2 ^ 28 + l.count) ∷ entries 0 0 xs in
@@ -144,6 +149,7 @@ inside s f front back x c h =
       | inr k ↦ (omega (arith, k.0), omega (arith, k.1, long, size, whole))
     ]
 
+-- two values share no byte
 abbrev pub Apart : Seat → Seat → Type 0
 Apart c d = (c.at + extent c ≤ d.at) ⊎ (d.at + extent d ≤ c.at)
 
@@ -195,15 +201,18 @@ same_keys s i j c d h k =
 front_length : (s : Seat) (i : ℕ) (c : Seat) (h : Holds s i c) → length (h.keys ++ h.before) ≡ length h.keys + i
 front_length s i c h = length-append h.keys h.before ∙ ap (λ (n : ℕ). length h.keys + n) h.number
 
+-- two values in a value share no byte
 pub held_apart : (s : Seat) (i j : ℕ) (c d : Seat) → Holds s i c → Holds s j d → i < j → Apart c d
 held_apart s i j c d h k lt =
     apart (child s i c h) (child s j d k)
     (omega (arith, same_keys s i j c d h k, front_length s i c h, front_length s j d k))
 
+-- there is one value of a number
 pub one_held : (s : Seat) (i : ℕ) (c d : Seat) → Holds s i c → Holds s i d → c ≡ d
 one_held s i c d h k =
     one_child (child s i c h) (child s i d k)
     (omega (arith, same_keys s i i c d h k, front_length s i c h, front_length s i d k))
 
+-- a value in a value is inside it
 pub held_inside : (s : Seat) (i : ℕ) (c : Seat) → Holds s i c → (s.at + 4 ≤ c.at) × (c.at + extent c ≤ s.at + extent s)
 held_inside s i c h = inside s h.form (h.keys ++ h.before) h.after h.item c (child s i c h)

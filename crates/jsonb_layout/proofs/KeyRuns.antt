@@ -11,10 +11,12 @@ use Rattle.jsonb_layout.specs.inner.Reading.{Place, item_at, follows, keys_at}
 use Rattle.jsonb_layout.proofs.Tools.{guard, bind_some, some_is}
 use Rattle.jsonb_layout.proofs.Runs.{Run, Run-nil, Run-cons, Run-none, Run-tail, after, Fit, item_takes, item_again}
 
+-- keys that rise, also after one before them
 abbrev pub rises_after : Option (List ℕ) → List (List ℕ) → Bool
 rises_after None ks = rises ks
 rises_after (Some before) ks = rises (before ∷ ks)
 
+-- one key more
 pub rises_more : (before : Option (List ℕ)) (k : List ℕ) (ks : List (List ℕ)) → follows before k ≡ true → rises (k ∷ ks) ≡ true
     → rises_after before (k ∷ ks) ≡ true
 rises_more None k ks f r = r
@@ -34,10 +36,12 @@ pub record KeyRun (before : Option (List ℕ)) (p q : Place) (ks : List (List �
 key_is : (x : Item) → x.kind ≡ 0 → x ≡ key_item x.piece
 key_is x h = ap (λ (k : ℕ). let y : Item = record { kind = k; piece = x.piece } in y) h
 
+-- keys that rise, from the first on
 pub starts : (before : Option (List ℕ)) → rises_after before [] ≡ true
 starts None = refl
 starts (Some b) = refl
 
+-- keys that are read are laid, and rise
 pub keys_take : (n : ℕ) (before : Option (List ℕ)) (p : Place) (r : List (List ℕ) × Place) → Fit p → keys_at n before p ≡ Some r
     → KeyRun before p r.1 r.0 n
 unfolding keys_at
@@ -65,6 +69,7 @@ keys_take (suc n) before p r fit e =
       count = ap suc more.count;
     })
 
+-- keys that are laid and rise are read
 pub keys_again : (ks : List (List ℕ)) (before : Option (List ℕ)) (p q : Place) → Run p q (map key_item ks)
     → p.at + length (pieces (map key_item ks)) < 2 ^ 28 → rises_after before ks ≡ true → keys_at (length ks) before p ≡ Some (ks, q)
 unfolding keys_at

@@ -6,6 +6,7 @@ use Rattle.std.proofs.lemmas.Bool.{eqb-true, eqb-false, lt-ltb, ltb-true, cases_
 use Rattle.json_model.specs.Decimal.{Decimal, IsNarrow}
 use Rattle.jsonb_layout.specs.inner.Narrow.{stripped, is_narrow}
 
+-- one zero digit more
 pub ten_more : (a b : ℕ) → a * 10 ^ suc b ≡ (a * 10 ^ b) * 10
 ten_more a b = rw (pow-suc 10 b) (omega arith)
 
@@ -31,12 +32,14 @@ pub at_least : (s m : ℕ) → 0 < m → s ≤ s * m
 at_least s zero p = absurd (omega arith)
 at_least s (suc m) p = omega arith
 
+-- no number with the same digits and a last digit is less
 pub least : (s b k c : ℕ) → s * 10 ^ b ≡ k * 10 ^ c → (s % 10 ≡ 0 → ⊥) → s ≤ k
 least s zero k zero e last = omega arith
 least s (suc b) k zero e last = let h = at_least s (10 ^ suc b) (one-le-pow (suc b) 10 (lit< tt)) in omega arith
 least s zero k (suc c) e last = let h = ten_more k c in absurd (last (omega arith))
 least s (suc b) k (suc c) e last = let h = ten_more s b in let g = ten_more k c in least s b k c (omega arith) last
 
+-- what the test takes is narrow
 pub narrow_takes : (d : Decimal) → is_narrow d ≡ true → IsNarrow d
 unfolding is_narrow
 narrow_takes d e =
@@ -49,6 +52,7 @@ narrow_takes d e =
 strip_zero : stripped 0 0 ≡ 0
 strip_zero = refl
 
+-- the test takes what is narrow
 pub narrow_again : (d : Decimal) → IsNarrow d → is_narrow d ≡ true
 unfolding is_narrow
 narrow_again d (b, k, e, lt) =

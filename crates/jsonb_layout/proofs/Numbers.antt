@@ -239,11 +239,13 @@ groups_again (g ∷ gs) h =
 
 -- ---- the value
 
+-- a sign changes no size
 pub abs_signed : (m : Bool) (n : ℕ) → nat_abs (signed m n) ≡ n
 abs_signed true zero = refl
 abs_signed true (suc n) = refl
 abs_signed false n = refl
 
+-- what is divided without a rest
 pub whole_of : (w u : ℕ) → w % u ≡ 0 → w / u * u ≡ w
 whole_of w u e = let h = div-add-mod' w u in omega arith
 
@@ -270,18 +272,23 @@ pub decimal_same : (a b : ℤ) (f g : ℕ) → a ≡ b → f ≡ g
     → ◌≡◌ {A = Option Decimal} (Some (record { digits = a; places = f })) (Some (record { digits = b; places = g }))
 decimal_same a b f g e h = rw (e, h) refl
 
+-- the digits of the groups, times a power of ten
 abbrev pub whole : Header → List ℕ → ℕ
 whole h gs = 10 ^ h.dscale * (joined gs * 10000 ^ (h.lift + 1))
 
+-- what one digit of that is of the number
 abbrev pub unit : List ℕ → ℕ
 unit gs = 10000 ^ (length gs + 2 ^ 15)
 
+-- the number of no groups
 abbrev pub none_of : Header → Option Decimal
 none_of h = only_if (eqb h.lift (2 ^ 15) && not h.minus) (Some (record { digits = pos 0; places = h.dscale }))
 
+-- the number of some
 abbrev pub some_of : Header → ℕ → ℕ → Option Decimal
 some_of h w u = only_if (eqb (w % u) 0) (Some (record { digits = signed h.minus (w / u); places = h.dscale }))
 
+-- a value that is computed is the value
 pub value_takes : (h : Header) (gs : List ℕ) (d : Decimal) → value_of h gs ≡ Some d → IsValue h gs d
 unfolding value_of
 value_takes h [] d e =
@@ -331,6 +338,7 @@ are_below : (gs : List ℕ) → are_groups gs ≡ true → all_below gs ≡ true
 are_below gs e =
     (and_parts (all_below gs) (ltb 0 (get_or gs 0 1)) (and_parts (all_below gs && ltb 0 (get_or gs 0 1)) (ltb 0 (get_or gs (length gs - 1) 1)) e).0).0
 
+-- a number that is read is the one its bytes stand for
 pub numeric_takes : (p : List ℕ) (d : Decimal) → IsBytes p → numeric_of p ≡ Some d → Numeric p d
 unfolding numeric_of
 numeric_takes p d fits e =
@@ -353,6 +361,7 @@ numeric_takes p d fits e =
       value = value_takes b.0.0 c.0 d g.1;
     }
 
+-- a number that bytes stand for is read
 pub numeric_again : (p : List ℕ) (d : Decimal) → Numeric p d → numeric_of p ≡ Some d
 unfolding numeric_of
 numeric_again p d n =

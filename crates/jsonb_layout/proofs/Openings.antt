@@ -21,6 +21,7 @@ IsLone Lone c = c ≡ 1
 
 -- ---- the header
 
+-- what a header word says of the bytes behind it
 pub record Opens (b : List ℕ) (f : Form) (c : ℕ) (p : Place) : Type 0 where
   pub count : c < 2 ^ 28
   pub alone : IsLone f c
@@ -83,6 +84,7 @@ begun_takes body g f c p e =
       ltb-true (length body - size) (2 ^ 28) t.1,
     )
 
+-- what is opened begins as its header word says
 pub open_takes : (b : List ℕ) (f : Form) (c : ℕ) (p : Place) → IsBytes b → opened b ≡ Some (f, c, p) → Opens b f c p × Fit p
 unfolding opened form_at
 open_takes b f c p fits e =
@@ -129,6 +131,7 @@ flags_small Array = omega arith
 flags_small Object = omega arith
 flags_small Lone = omega arith
 
+-- what begins as a header word says is opened
 pub open_again : (b : List ℕ) (f : Form) (c : ℕ) (p : Place) → Opens b f c p → opened b ≡ Some (f, c, p)
 unfolding opened form_at
 open_again b f c p o =
@@ -153,14 +156,17 @@ open_again b f c p o =
 
 -- ---- the layout
 
+-- each word has four bytes
 pub length-words : (ns : List ℕ) → length (words ns) ≡ 4 * length ns
 length-words [] = refl
 length-words (n ∷ ns) = omega (arith, length-words ns, length-append (to_le_bytes w32 n) (words ns))
 
+-- each item has a word
 pub length-entries : (i at : ℕ) (xs : List Item) → length (entries i at xs) ≡ length xs
 length-entries i at [] = refl
 length-entries i at (x ∷ xs) = ap suc (length-entries (i + 1) (at + length x.piece) xs)
 
+-- what is opened and run over to its end is laid
 pub laid_from : {b : List ℕ} {f : Form} {c : ℕ} {p q : Place} {xs : List Item} → Opens b f c p → Run p q xs → length xs ≡ items_in f c
     → HasCount f c (length xs) → length q.rest ≡ 0 → Laid b f xs
 laid_from {b = b} {f = f} {c = c} {p = p} {q = q} {xs = xs} o r n has e =
@@ -189,9 +195,11 @@ laid_from {b = b} {f = f} {c = c} {p = p} {q = q} {xs = xs} o r n has e =
 abbrev pub first : List Item → Place
 first xs = record { index = 0; at = 0; words = words (entries 0 0 xs); rest = pieces xs }
 
+-- the place at the end of a run
 abbrev pub last : List Item → Place
 last xs = record { index = length xs; at = length (pieces xs); words = []; rest = [] }
 
+-- a run over all items from the front
 pub run_over : (xs : List Item) → AllByRecursion (λ x. x.kind < 8) xs → Run (first xs) (last xs) xs
 run_over xs kinds =
     record {
@@ -202,11 +210,13 @@ run_over xs kinds =
       kinds = kinds;
     }
 
+-- a count, by the form
 pub count_is : (f : Form) (c n : ℕ) → HasCount f c n → (n ≡ items_in f c) × IsLone f c
 count_is Array c n h = (h, tt)
 count_is Object c n h = (h, tt)
 count_is Lone c n h = (h.0, h.1)
 
+-- what is laid begins as its header word says
 pub opens_from : (b : List ℕ) (f : Form) (xs : List Item) (l : Laid b f xs) → Opens b f l.count (first xs)
 opens_from b f xs l =
     let k = count_is f l.count (length xs) l.counted in
@@ -222,6 +232,7 @@ opens_from b f xs l =
 
 -- ---- root scalars
 
+-- what is answered at the end is at the end
 pub ended_is : {A : Type 0} (p : Place) (x y : A) → ended p x ≡ Some y → (length p.rest ≡ 0) × (x ≡ y)
 ended_is p x y e = let g = guard (eqb (length p.rest) 0) (Some x) y e in (eqb-true (length p.rest) 0 g.0, some_is x y g.1)
 

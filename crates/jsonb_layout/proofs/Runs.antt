@@ -19,6 +19,7 @@ pub record Run (p q : Place) (xs : List Item) : Type 0 where
   pub at : q.at ≡ p.at + length (pieces xs)
   pub kinds : AllByRecursion (λ x. x.kind < 8) xs
 
+-- no items
 pub Run-nil : (p : Place) → Run p p []
 Run-nil p = record { words = refl; rest = refl; index = omega arith; at = omega arith; kinds = tt }
 
@@ -32,6 +33,7 @@ after p q x xs =
       rest = pieces xs ++ q.rest;
     }
 
+-- the items behind the first
 pub Run-tail : (p q : Place) (x : Item) (xs : List Item) → Run p q (x ∷ xs) → Run (after p q x xs) q xs
 Run-tail p q x xs r =
     record {
@@ -42,6 +44,7 @@ Run-tail p q x xs r =
       kinds = r.kinds.1;
     }
 
+-- one item more in front
 pub Run-cons : (p q m : Place) (x : Item) (xs : List Item) → Run p m (x ∷ []) → Run m q xs → Run p q (x ∷ xs)
 Run-cons p q m x xs a b =
     let i : m.index ≡ p.index + 1 = omega (arith, a.index) in
@@ -72,21 +75,25 @@ Run-head p q x xs r = record {
   kinds = (r.kinds.0, tt);
 }
 
+-- places with the same numbers and bytes are one
 pub place_same : {i j a b : ℕ} {v w r s : List ℕ} → i ≡ j → a ≡ b → v ≡ w → r ≡ s
     → ◌≡◌ {A = Place} (record { index = i; at = a; words = v; rest = r }) (record { index = j; at = b; words = w; rest = s })
 place_same e f g h = rw (e, f, g, h) refl
 
+-- a run of no items ends where it begins
 pub Run-none : (p q : Place) → Run p q [] → p ≡ q
 Run-none p q r =
     let index : p.index ≡ q.index = omega (arith, r.index) in
     let at : p.at ≡ q.at = omega (arith, r.at) in
     place_same index at r.words r.rest
 
+-- two runs, one behind the other
 pub Run-append : (xs ys : List Item) (p m q : Place) → Run p m xs → Run m q ys → Run p q (xs ++ ys)
 Run-append [] ys p m q a b = subst (λ (k : Place). Run k q ys) (sym (Run-none p m a)) b
 Run-append (x ∷ xs) ys p m q a b =
     Run-cons p q (after p m x xs) x (xs ++ ys) (Run-head p m x xs a) (Run-append xs ys (after p m x xs) m q (Run-tail p m x xs a) b)
 
+-- a run of two parts
 pub Run-split : (xs ys : List Item) (p q : Place) → Run p q (xs ++ ys) → (m : Place) × Run p m xs × Run m q ys
 Run-split [] ys p q r = (p, Run-nil p, r)
 Run-split (x ∷ xs) ys p q r =
@@ -128,6 +135,7 @@ item_again p q x xs r l =
     ∙ found_same (p.index + 1) (p.at + length x.piece) s.kind (ap (take (length x.piece)) whole ∙ take_at x.piece (pieces xs ++ q.rest) (length x.piece) refl) d
     (ap (drop (length x.piece)) whole ∙ drop_at x.piece (pieces xs ++ q.rest) (length x.piece) refl)
 
+-- the bytes at a place are bytes
 pub record Fit (p : Place) : Type 0 where
   pub words : IsBytes p.words
   pub rest : IsBytes p.rest

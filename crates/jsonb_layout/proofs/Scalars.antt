@@ -22,6 +22,7 @@ all_zero_again : (n : ℕ) → list_all (λ b. eqb b 0) (replicate n 0) ≡ true
 all_zero_again zero = refl
 all_zero_again (suc n) = all_zero_again n
 
+-- what is read without padding has it in front
 pub unpadded_takes : (at : ℕ) (piece q : List ℕ) → unpadded at piece ≡ Some q → (piece ≡ padding at ++ q) × (q ≡ drop (pad at) piece)
 unfolding unpadded
 unpadded_takes at piece q e =
@@ -34,6 +35,7 @@ unpadded_takes at piece q e =
       sym rest,
     )
 
+-- what has padding in front is read without it
 pub unpadded_again : (at : ℕ) (piece q : List ℕ) → piece ≡ padding at ++ q → unpadded at piece ≡ Some q
 unfolding unpadded
 unpadded_again at piece q e =
@@ -48,6 +50,7 @@ empty_takes c r s e =
     let g = guard (eqb (length c) 0) (Some r) s e in
     (nil_from_length c (eqb-true _ _ g.0), some_is r s g.1)
 
+-- a scalar that is read is the one its item stands for
 pub scalar_takes : (at : ℕ) (x : Item) (s : Scalar) → IsBytes x.piece → scalar_of at x ≡ Some s → IsScalar s at x
 unfolding scalar_of
 scalar_takes at x s fits e = elim (chosen (eqb x.kind 0) (Some (string x.piece)) _ (Some s) e) [
@@ -71,6 +74,7 @@ scalar_takes at x s fits e = elim (chosen (eqb x.kind 0) (Some (string x.piece))
   ]
 ]
 
+-- a scalar that an item stands for is read
 pub scalar_again : (at : ℕ) (x : Item) (s : Scalar) → IsScalar s at x → scalar_of at x ≡ Some s
 unfolding scalar_of
 scalar_again at x null h = rw (h.0, h.1) refl

@@ -53,6 +53,7 @@ one_way (i ∷ is) (j ∷ js) s c d (m, h, l) (n, k, r) e = elim (cases_lt i j) 
 
 -- ---- the whole
 
+-- a slice has one root
 pub one_root : (b : List ℕ) (r q : Seat) → IsRoot b r → IsRoot b q → r ≡ q
 one_root b r q (f, xs, l, e) (g, ys, m, h) =
     let same = one_layout b f g xs ys l m in

@@ -80,6 +80,7 @@ pick (element u ts) (suc i) at (x ∷ xs) t h e =
       stands = subst (λ (k : ℕ). IsItem t k p.item) place p.stands;
     }
 
+-- the values of an object, as elements
 pub value_elements : (ms : Members) (at : ℕ) (xs : List Item) → AreValues ms at xs → AreElements (values ms) at xs
 value_elements no_members at [] h = h
 value_elements no_members at (x ∷ xs) h = h
@@ -153,6 +154,7 @@ in_object s ms i t five (items, l, rise, are) e =
           (subst (λ (k : ℕ). IsItem t k p.item) (sym (pieces-append ks p.before)) p.stands);
     }
 
+-- the tree of a number among those in a tree
 pub tree_in : (s : Seat) (t : Tree) (i : ℕ) (u : Tree) → SeatStands s t → slice_get (trees_of t) i ≡ Some u → Found s i u
 tree_in s (scalar x) i u h e = absurd cc
 tree_in s (array ts) i u (five, (q, b, h)) e = in_array s ts i u five (subst (IsArray (AreElements ts)) (sym b) h) e
@@ -169,6 +171,7 @@ leads_to (i ∷ is) s t u h e =
 
 -- ---- the whole
 
+-- the root stands for the whole tree
 pub root_stands : (b : List ℕ) (t : Tree) → Stands b t → (r : Seat) × IsRoot b r × SeatStands r t
 root_stands b (scalar s) (x, l, h) = (item_seat 0 1 [] x, (Lone, x ∷ [], l, refl), item_stands (scalar s) 0 1 [] x h)
 root_stands b (array ts) (items, l, are) = (record { at = 0; kind = 5; bytes = b }, (Array, items, l, refl), (refl, (b, refl, (items, l, are))))

@@ -14,6 +14,7 @@ use Rattle.jsonb_layout.proofs.KeyRuns.{rises_after, rises_more, starts}
 use Rattle.jsonb_layout.proofs.Openings.{ended_is}
 use Rattle.jsonb_layout.proofs.Containers.{count}
 
+-- as many elements are read as are asked for
 pub elements_count : (inside : List ℕ → Option Tree) (n : ℕ) (p : Place) (r : Elements × Place) → elements_by inside n p ≡ Some r → count r.0 ≡ n
 unfolding elements_by
 elements_count inside zero p r e = ap (λ (y : Elements × Place). count y.0) (sym (some_is (no_elements, p) r e))
@@ -49,9 +50,11 @@ keys_rising (suc n) before p r e =
           ∙ rises_more before a.0.0.piece b.0.0 (and_parts (eqb a.0.0.kind 0) (follows before a.0.0.piece) g.0).1 more.1,
     )
 
+-- as many keys are read as are asked for
 pub keys_count : (n : ℕ) (p : Place) (r : List (List ℕ) × Place) → keys_at n None p ≡ Some r → length r.0 ≡ n
 keys_count n p r e = (keys_rising n None p r e).0
 
+-- keys that are read rise
 pub keys_rise : (n : ℕ) (p : Place) (r : List (List ℕ) × Place) → keys_at n None p ≡ Some r → rises r.0 ≡ true
 keys_rise n p r e = (keys_rising n None p r e).1
 

@@ -17,6 +17,7 @@ pub record Takes (p : Place) (x : Item) (q : Place) : Type 0 where
   pub piece : length x.piece + length q.rest ≡ length p.rest
   pub at : q.at ≡ p.at + length x.piece
 
+-- an item that is read takes its word and its piece
 pub item_takes : (p q : Place) (x : Item) → item_at p ≡ Some (x, q) → Takes p x q
 unfolding item_at
 item_takes p q x e =
@@ -42,12 +43,14 @@ item_takes p q x e =
 pub item_size : (p q : Place) (x : Item) → item_at p ≡ Some (x, q) → size q + length x.piece + 4 ≤ size p
 item_size p q x e = let t = item_takes p q x e in omega (arith, t.words, t.piece)
 
+-- without padding a piece is no longer
 pub unpadded_size : (at : ℕ) (piece k : List ℕ) → unpadded at piece ≡ Some k → length k ≤ length piece
 unfolding unpadded
 unpadded_size at piece k e =
     let g = guard (leb (pad at) (length piece) && list_all (λ b. eqb b 0) (take (pad at) piece)) (Some (drop (pad at) piece)) k e in
     omega (arith, ap length (some_is (drop (pad at) piece) k g.1), length-drop (pad at) piece)
 
+-- behind keys there is no more
 pub keys_size : (n : ℕ) (before : Option (List ℕ)) (p : Place) (r : List (List ℕ) × Place) → keys_at n before p ≡ Some r → size r.1 ≤ size p
 unfolding keys_at
 keys_size zero before p r e = subst (λ (y : List (List ℕ) × Place). size y.1 ≤ size p) (some_is ([], p) r e) (omega arith)
@@ -70,6 +73,7 @@ pub record Shares (b : List ℕ) (p : Place) : Type 0 where
   pub at : p.at ≡ 0
   pub short : length p.rest < 2 ^ 28
 
+-- what is opened shares out its bytes
 pub opened_shares : (b : List ℕ) (f : Form) (c : ℕ) (p : Place) → opened b ≡ Some (f, c, p) → Shares b p
 unfolding opened form_at
 opened_shares b f c p e =

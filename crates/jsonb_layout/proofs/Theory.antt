@@ -68,6 +68,7 @@ joined_below (g ∷ gs) h =
 joined_least : (g : ℕ) (gs : List ℕ) → g * 10000 ^ length gs ≤ joined (g ∷ gs)
 joined_least g gs = omega arith
 
+-- what is known of the first and the last group
 pub record Ends (g : ℕ) (gs : List ℕ) (k z : ℕ) : Type 0 where
   pub below : all_below (g ∷ gs) ≡ true
   pub some : 1 ≤ k
@@ -182,6 +183,7 @@ are_some h g gs k z e =
     last_pos l (suc q) zero e h pos = absurd (omega arith)
     last_pos l (suc q) (suc p) e h pos = omega arith
 
+-- no digit is past the fraction digits
 abbrev pub fits_in : Header → List ℕ → ℕ → Bool
 fits_in h gs z = leb (4 * (length gs + 2 ^ 15)) (h.dscale + z + 4 * (h.lift + 1))
 
@@ -200,6 +202,7 @@ divides n a b last w u e f = elim (cases_lt a b) [
 quotient : (n a b w u : ℕ) → b ≤ a → w ≡ n * 10 ^ a → u ≡ 10 ^ b → w / u ≡ n * 10 ^ (a - b)
 quotient n a b w u le e f = rw (e, f, cut n a b le) (mul-div_cancel (n * 10 ^ (a - b)) (one-le-pow b 10 ten))
 
+-- the ends of the groups decide
 pub decided : (h : Header) (g : ℕ) (gs : List ℕ) (k z : ℕ) → Ends g gs k z
     → option_map is_narrow (only_if (are_groups (g ∷ gs)) (value_of h (g ∷ gs)))
     ≡ only_if (fits_in h (g ∷ gs) z) (Some (leb (4 * length gs + k - z) 38))

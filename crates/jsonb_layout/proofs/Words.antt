@@ -45,15 +45,18 @@ said false at n w h e =
     let n-is : w % 2 ^ 28 ≡ n = some_is _ _ g.1 in
     omega arith
 
+-- an entry word says the kind and the length of its item
 pub entry_says : (i at : ℕ) (x : Item) → x.kind < 8 → at + length x.piece < 2 ^ 28
     → Says (eqb (i % 32) 0) x.kind at (length x.piece) (entry i (at + length x.piece) x)
 entry_says i at x h l = says (eqb (i % 32) 0) x.kind at (length x.piece) h l
 
+-- what says them is the entry word
 pub entry_said : (i at n w : ℕ) (piece : List ℕ) → w < 2 ^ 32 → length_of i at w ≡ Some n → length piece ≡ n
     → w ≡ entry i (at + n) (record { kind = w / 2 ^ 28 % 8; piece = piece })
 unfolding length_of
 entry_said i at n w piece h e len = rw len (said (eqb (i % 32) 0) at n w h e)
 
+-- the length that an entry word says
 pub says_length : (i at n w : ℕ) → length_by (eqb (i % 32) 0) at w ≡ Some n → length_of i at w ≡ Some n
 unfolding length_of
 says_length i at n w e = e

@@ -10,7 +10,7 @@ use Rattle.jsonb_layout.specs.inner.Trees.{read}
 use Rattle.jsonb_layout.proofs.SeatRuns.{array_held, object_held}
 use Rattle.jsonb_layout.proofs.Tools.{IsBytes}
 use Rattle.jsonb.specs.Seated.{member_seats, member_tree, or_no_members, values_of, object_seats}
-use Rattle.jsonb.specs.inner.Values.{or_null, IsJsonTree, skip}
+use Rattle.jsonb.specs.inner.Values.{IsJsonTree, skip}
 use Rattle.jsonb.proofs.MemberLaws.{holds, keys_names, object_stands, array_read, object_read, members_stand, members_pairs}
 use Rattle.jsonb.proofs.SeatTrees.{member_trees, member_values}
 use Rattle.jsonb.specs.Nodes.{object_tree}

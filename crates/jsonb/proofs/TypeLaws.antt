@@ -1,9 +1,9 @@
 -- The type of the tree of bytes of a kind, and the length of a string's.
-use Rattle.std.proofs.Common.{◌≡◌, ℕ, List, Option, Some, None, refl, sym, ap, subst, ◌∙◌, length, count_by, inl, inr, Bool, true, false, cond}
+use Rattle.std.proofs.Common.{◌≡◌, ℕ, List, Option, Some, None, refl, sym, ap, subst, ◌∙◌, length, count_by, Bool, true, false, cond}
 use Rattle.std.specs.Prelude.{option_map}
 use Rattle.std.proofs.lemmas.Str.{IsUtf8-from_is_utf8}
-use Rattle.json_model.specs.Tree.{Tree, scalar, number, string, null, boolean, array, object}
-use Rattle.json_model.specs.Parts.{as_string, if_object, points}
+use Rattle.json_model.specs.Tree.{Tree}
+use Rattle.json_model.specs.Parts.{as_string, points}
 use Rattle.json_traits.specs.Kinds.{type_of}
 use Rattle.json_traits.specs.declared.types.json_type.JsonType.TheVariants as types
 use Rattle.bytecount.specs.Bytes.{begins_char}

@@ -2,7 +2,6 @@
 use Rattle.std.proofs.Common.{◌≡◌, ℕ, zero, suc, ◌+◌, ◌-◌, ◌*◌, ◌<◌, ◌≤◌, Bool, true, false, cond, List, length, Option, Some, None, refl, sym, ap, subst, ◌∙◌, arith}
 use Rattle.std.specs.Prelude.{bytes_eq, option_map}
 use Rattle.jsonb_layout.specs.Layout.{Item}
-use Rattle.jsonb_layout.specs.Options.{◌>>=◌}
 use Rattle.jsonb_layout.specs.inner.Reading.{Place, item_at}
 use Rattle.jsonb_layout.proofs.Sizes.{item_takes}
 use Rattle.jsonb_layout.proofs.Tools.{bind_some, some_is, count_down}

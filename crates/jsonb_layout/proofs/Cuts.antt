@@ -12,7 +12,6 @@ use Rattle.jsonb_layout.specs.Layout.{Item, pieces, entry, entries, words, flags
 use Rattle.jsonb_layout.specs.declared.form.Form.{Form}
 use Rattle.jsonb_layout.specs.declared.form.Form.TheVariants.{Array, Object, Lone}
 use Rattle.jsonb_layout.specs.Stands.{Stands}
-use Rattle.jsonb_layout.specs.Options.{◌>>=◌}
 use Rattle.jsonb_layout.specs.inner.Reading.{Place, length_of, items_in, form_of, form_at, begun, opened}
 use Rattle.jsonb_layout.proofs.Tools.{bind_some, guard, some_is}
 use Rattle.jsonb_layout.proofs.Words.{entry_says, says_length}

@@ -1,6 +1,5 @@
 -- Taking readers apart.
 use Rattle.std.proofs.Common.{◌≡◌, ℕ, suc, ◌+◌, ◌-◌, ◌<◌, ◌⊎◌, Bool, true, false, cond, List, get_or, take, drop, Option, Some, None, refl, arith, inl, inr}
-use Rattle.std.specs.Prelude.{◌&&◌}
 use Rattle.std.proofs.lemmas.Bool.{cases_lt}
 use Rattle.std.proofs.lemmas.List.{length-take, get_or-drop, get_or-take, get_or_past}
 use Rattle.jsonb_layout.specs.Options.{◌>>=◌, only_if}

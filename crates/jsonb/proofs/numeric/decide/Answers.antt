@@ -1,4 +1,4 @@
-use Rattle.std.proofs.Common.{arith, sym, ◌∙◌}
+use Rattle.std.proofs.Common.{arith, ◌∙◌}
 use Rattle.jsonb.proofs.Groups.{shown, no_first, no_last, too_long, narrow_if, Counted, ends_are}
 use Rattle.jsonb.proofs.numeric.decide.Goals as goal
 

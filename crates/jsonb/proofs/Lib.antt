@@ -4,7 +4,7 @@ pub mod FoundLaws
 pub mod KeyLoop
 pub mod Walks
 pub mod FrameLaws
-pub mod StepLaws
+pub mod AdvanceLaws
 pub mod TreeCauses
 pub mod RootLaws
 pub mod OwnLaws

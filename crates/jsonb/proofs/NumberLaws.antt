@@ -128,9 +128,9 @@ pub record Says (h : Header) (weight : ℤ) (b : List ℕ) (d : Decimal) : Type 
   pub few : h.dscale ≤ 16383
   pub sign : d.digits ≡ signed h.minus (nat_abs d.digits)
 
-says : (h : Header) (weight : ℤ) (b gs : List ℕ) (d : Decimal) → lifted weight ≡ h.lift → h.dscale < 2 ^ 14 → groups_of b ≡ Some gs
+says : {h : Header} {weight : ℤ} {b : List ℕ} (gs : List ℕ) {d : Decimal} → lifted weight ≡ h.lift → h.dscale < 2 ^ 14 → groups_of b ≡ Some gs
     → are_groups gs ≡ true → value_of h gs ≡ Some d → IsNarrow d → Says h weight b d
-says h weight b gs d lift fits e fit value narrow =
+says {h = h} {weight = weight} {b = b} gs {d = d} lift fits e fit value narrow =
     let below =
     (and_parts (all_below gs) (ltb 0 (get_or gs 0 1)) (and_parts (all_below gs && ltb 0 (get_or gs 0 1)) (ltb 0 (get_or gs (length gs - 1) 1)) fit).0).0
     in
@@ -170,16 +170,16 @@ header_there p body json e f =
     let h : ◌≡◌ {A = Option Decimal} None (Some d) = rw (← e, ← f) at r in cc
 
 -- the weight is passed by its bits
-pub number_says : (p body : List ℕ) (h : Header) (b : List ℕ) (weight : ℤ) → IsJsonTree (tree_at kinds.Number p) → Some body ≡ varlena_of p
+pub number_says : (p : List ℕ) {body : List ℕ} {h : Header} {b : List ℕ} (weight : ℤ) → IsJsonTree (tree_at kinds.Number p) → Some body ≡ varlena_of p
     → Some (h, b) ≡ header_of body → SFits w16 weight → lifted weight ≡ h.lift
     → (d : Decimal) × IsNumber p d × Says h (to_z w16 (of_z w16 weight)) b d
-number_says p body h b weight json e f fits lift =
+number_says p {body = body} {h = h} {b = b} weight json e f fits lift =
     let (d, n) = is_number p json in
     let a = bind_some (groups_of b) (λ gs. only_if (are_groups gs) (value_of h gs)) d (behind p body h b d n.reads e f) in
     let g = guard (are_groups a.0) (value_of h a.0) d a.2 in (
       d,
       n,
-      says h (to_z w16 (of_z w16 weight)) b a.0 d (ap lifted (to_z-of_z w16 weight fits) ∙ lift) (dscale_fits body (h, b) (sym f)) a.1 g.0 g.1
+      says a.0 (ap lifted (to_z-of_z w16 weight fits) ∙ lift) (dscale_fits body (h, b) (sym f)) a.1 g.0 g.1
           n.narrow,
     )
 
@@ -190,9 +190,9 @@ exact h weight b d x s e =
     (nat_abs d.digits, ap nat_abs e ∙ abs_signed h.minus (parts_in d) ∙ ap (λ (f : ℕ). nat_abs d.digits * 10 ^ (16383 - f)) s.places)
 
 -- what is worth as much, with as many fraction digits, is the number
-pub number_is : (p : List ℕ) (h : Header) (weight : ℤ) (b : List ℕ) (d : Decimal) (x : ℤ) (w : Decimal) → IsNumber p d → Says h weight b d
+pub number_is : {p : List ℕ} {h : Header} {weight : ℤ} {b : List ℕ} {d : Decimal} (x : ℤ) (w : Decimal) → IsNumber p d → Says h weight b d
     → x ≡ signed h.minus (parts_in d) → w.places ≡ h.dscale → IsWorth x w → or_null (tree_at kinds.Number p) ≡ scalar (number w)
-number_is p h weight b d x w n s e places worth =
+number_is {h = h} {d = d} x w n s e places worth =
     let same : d ≡ w =
     one_record x d w (subst (λ (y : ℤ). IsWorth y d) (sym e) (is_worth h.minus d s.sign (omega (arith, s.places, s.few)))) worth
     (s.places ∙ sym places) in

@@ -39,7 +39,7 @@ module _ (at s : ℕ) (b : List ℕ) (json : IsJsonTree (read b)) {c : ℕ} {p :
   object_holds e fits is =
       let o = holds c p (object_stands b json e) in
       let n = keys_names c None p (o.names, o.behind) o.keys_are in
-      let held = object_held at c b p o.behind o.names _ fits (sym e) o.keys_are (object_read b json c p e).1 in
+      let held = object_held at b _ fits (sym e) o.keys_are (object_read b json c p e).1 in
       let moved = subst (λ (n : ℕ). AreHeld (holder at b) (seats_at n c o.behind)) (sym is) held in
       let values = member_values s c p o.behind (o.names, o.behind) n.0 in
       subst (AreHeld (holder at b)) (sym values ∙ ap values_of (seats_behind_is s c p o.behind (sym n.1))) moved

@@ -167,9 +167,9 @@ array_held at c b p t fits e h i seat get =
     }
 
 -- The same of an object's values, which come behind its keys.
-pub object_held : (at c : ℕ) (b : List ℕ) (p q : Place) (ks : List (List ℕ)) (t : Tree) → IsBytes b → opened b ≡ Some (Object, c, p)
+pub object_held : (at : ℕ) {c : ℕ} (b : List ℕ) {p q : Place} {ks : List (List ℕ)} (t : Tree) → IsBytes b → opened b ≡ Some (Object, c, p)
     → keys_at c None p ≡ Some (ks, q) → read b ≡ Some t → AreHeld (record { at = at; kind = 5; bytes = b }) (seats_at (at + 4 + length p.words) c q)
-object_held at c b p q ks t fits e ek h i seat get =
+object_held at {c = c} b {p = p} {q = q} {ks = ks} t fits e ek h i seat get =
     let o = open_takes b Object c p fits e in
     let keys = map key_item ks in
     let k = keys_take c None p (ks, q) o.1 ek in

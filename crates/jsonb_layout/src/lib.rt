@@ -4,10 +4,9 @@
 //!
 //! - `Layout`, `Numeric` and `Stands` are the relation that a user believes: `Stands bytes tree` says that the bytes, all of
 //!   them, are a header word, entry words and pieces that stand for the tree;
-//! - `Narrow`, `Reading` and `Trees` compute the same from left to right, one small definition for each function of the
-//!   reader in the crate `jsonb`;
 //! - `Seats` says where in the bytes the value at a place of the tree lies, and which two numbers tell it from every other;
-//!   `SeatReading` computes that.
+//! - `inner/` computes the same from left to right, one small definition for each function of the reader in the crate `jsonb`.
+//!   A user need not believe it.
 //!
 //! In `proofs/`, `Containers.tree_takes` and `tree_again` prove that both say the same, `one_tree` that no bytes stand for
 //! two trees, and `Cuts.no_more` that no proper front of what stands for a tree stands for one. `SeatTrees.place_has_seat` and

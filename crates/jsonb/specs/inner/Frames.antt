@@ -90,15 +90,15 @@ pub record Moves (frame : Frame) (old new : List Frame) (found : Found) (next : 
   pub flat : StaysFlat frame old new next
 
 -- why a frame can not be read on: memory is wanted only where a container stands in it
-abbrev pub StepCause : Frame → JsonbError → Type 0
-StepCause frame errors.Malformed = frame_found frame ≡ None
-StepCause frame errors.NotText = ⊥
-StepCause frame errors.NumberTooWide = ⊥
-StepCause frame errors.OutOfMemory = (g : Found) → frame_found frame ≡ Some g → HoldsScalars frame → ⊥
+abbrev pub AdvanceCause : Frame → JsonbError → Type 0
+AdvanceCause frame errors.Malformed = frame_found frame ≡ None
+AdvanceCause frame errors.NotText = ⊥
+AdvanceCause frame errors.NumberTooWide = ⊥
+AdvanceCause frame errors.OutOfMemory = (g : Found) → frame_found frame ≡ Some g → HoldsScalars frame → ⊥
 
 abbrev pub MovesTo : Frame → List Frame → List Frame → Result (Found × Option Frame) JsonbError → Type 0
 MovesTo frame old new (Ok r) = Moves frame old new r.0 r.1
-MovesTo frame old new (Err e) = StepCause frame e
+MovesTo frame old new (Err e) = AdvanceCause frame e
 
 -- of a container
 abbrev pub Searched : List ℕ → Result Found JsonbError → Type 0

@@ -3,7 +3,7 @@ use Rattle.std.proofs.lemmas.Bool.{eqb-true, eqb-false}
 use Rattle.std.proofs.lemmas.Result.{err_from_is_err_and}
 use Rattle.jsonb.specs.inner.Views.{place}
 use Rattle.jsonb.proofs.FrameLaws.{past_end}
-use Rattle.jsonb.proofs.StepLaws.{NextItem, NextValue, popped, no_item, refused_item, took_scalar, took_inside, not_put_off, inside_is}
+use Rattle.jsonb.proofs.AdvanceLaws.{NextItem, NextValue, popped, no_item, refused_item, took_scalar, took_inside, not_put_off, inside_is}
 use Rattle.jsonb.proofs.search.advance.Goals as goal
 
 pub returns-then-not-is_empty : goal.returns-then-not-is_empty

@@ -1,6 +1,6 @@
 use Rattle.std.proofs.Common.{subst, sym}
 use Rattle.jsonb.specs.declared.found.Found.{Found}
-use Rattle.jsonb.proofs.StepLaws.{SoFar, starts, goes_on, goes_down, stops, ends, none_of}
+use Rattle.jsonb.proofs.AdvanceLaws.{SoFar, starts, goes_on, goes_down, stops, ends, none_of}
 use Rattle.jsonb.proofs.search.container_faults.Goals as goal
 
 pub loop-current-init : goal.loop-current-init

@@ -1,6 +1,6 @@
 use Rattle.std.proofs.Common.{◌+◌}
 use Rattle.jsonb.specs.inner.Frames.{next_weight, frames_weight}
-use Rattle.jsonb.proofs.StepLaws.{SoFar}
+use Rattle.jsonb.proofs.AdvanceLaws.{SoFar}
 use Rattle.jsonb.proofs.search.container_faults.Given as goal
 
 abbrev pub invariant-loop-current : goal.invariant-loop-current

@@ -13,7 +13,7 @@ use Rattle.jsonb.specs.declared.frame.Frame.{Frame}
 use Rattle.jsonb.specs.declared.error.JsonbError.{JsonbError}
 use Rattle.jsonb.specs.declared.error.JsonbError.TheVariants as errors
 use Rattle.jsonb.specs.Found.{nothing, both, tree_found}
-use Rattle.jsonb.specs.inner.Frames.{combine, container_found, rest_found, frame_found, frames_found, next_found, HoldsScalars, frames_weight, next_weight, IsInside, SuspendCause, StaysFlat, Moves, StepCause, Searched}
+use Rattle.jsonb.specs.inner.Frames.{combine, container_found, rest_found, frame_found, frames_found, next_found, HoldsScalars, frames_weight, next_weight, IsInside, SuspendCause, StaysFlat, Moves, AdvanceCause, Searched}
 use Rattle.jsonb.specs.inner.Views.{place}
 use Rattle.jsonb.proofs.FoundLaws.{combine_none, combine_assoc, combine_nothing, nothing_combine, combine_some}
 use Rattle.jsonb.proofs.FrameLaws.{at_end, rest_none, rest_some, Left, stays_flat, no_inside, put_off}
@@ -132,7 +132,7 @@ module _ {frame : Frame} (next : NextItem frame) where
 
     -- why the rest could not be put off
     pub not_put_off : (e : JsonbError) → IsInside (place frame.start).at next.item → SuspendCause (rest_found (frame.left - 1) next.behind) e
-        → StepCause frame e
+        → AdvanceCause frame e
     not_put_off errors.Malformed inside h =
         value_is
         ∙ ap (λ (a : Option Found). combine (Some value.found) (combine (next_found value.inner) a)) h
@@ -203,7 +203,7 @@ module _ {b : List ℕ} {found : Found} {frame : Frame} {current : Option Frame}
   goes_down new f next step = omega (arith, step.smaller, ap next_weight now)
 
   -- why the reading stops
-  pub stops : (e : JsonbError) → StepCause frame e → Searched b (Err e)
+  pub stops : (e : JsonbError) → AdvanceCause frame e → Searched b (Err e)
   stops errors.Malformed h = sym at_frame ∙ ap (λ (a : Option Found). combine (Some found) (combine a (frames_found old))) h
   stops errors.NotText h = h
   stops errors.NumberTooWide h = h

@@ -4,20 +4,21 @@ use Rattle.std.specs.Prelude.{option_map, max}
 use Rattle.std.proofs.lemmas.Bool.{eq-eqb, ne_eqb}
 use Rattle.json_model.specs.Tree.{Scalar, Tree, scalar, array, object, Elements, no_elements, element}
 use Rattle.json_model.specs.Nest.{nest, nest_elements, nest_members}
-use Rattle.jsonb_layout.specs.Layout.{Item, Form, list, pairs, lone}
-use Rattle.jsonb_layout.specs.Reading.{◌>>=◌, only_if, Place, item_at, unpadded, scalar_of, keys_at, opened, ended}
-use Rattle.jsonb_layout.specs.Trees.{item_by, elements_by, members, held_by, read, item_tree}
-use Rattle.jsonb_layout.proofs.Tools.{bind_some, some_is}
+use Rattle.jsonb_layout.specs.Layout.{Item}
+use Rattle.jsonb_layout.specs.declared.form.Form.{Form}
+use Rattle.jsonb_layout.specs.declared.form.Form.TheVariants.{Array, Object, Lone}
+use Rattle.jsonb_layout.specs.Options.{◌>>=◌, only_if}
+use Rattle.jsonb_layout.specs.inner.Reading.{Place, item_at, unpadded, scalar_of, keys_at, opened, ended}
+use Rattle.jsonb_layout.specs.inner.Trees.{item_by, elements_by, members, held_by, read, item_tree}
+use Rattle.jsonb_layout.proofs.Tools.{bind_some, some_is, less_one}
 use Rattle.jsonb_layout.proofs.Openings.{ended_is}
 use Rattle.jsonb_layout.proofs.Containers.{count}
 use Rattle.jsonb_layout.proofs.Shapes.{elements_count, keys_count, read_no_scalar}
 use Rattle.jsonb_layout.proofs.Unrolled.{read_unroll}
 use Rattle.jsonb.specs.declared.found.Found.{Found}
 use Rattle.jsonb.specs.declared.frame.Frame.{Frame}
-use Rattle.jsonb.specs.declared.opening.Shape.{Shape}
 use Rattle.jsonb.specs.Found.{nothing, both, scalar_found, keys_found, keys_after, tree_found, elements_found}
-use Rattle.jsonb.specs.Frames.{combine, container_found, rest_found, frame_found, frames_found, frame_weight, frames_weight, IsInside}
-use Rattle.jsonb.specs.Views.{form}
+use Rattle.jsonb.specs.inner.Frames.{combine, container_found, rest_found, frame_found, frames_found, frame_weight, frames_weight, IsInside}
 use Rattle.jsonb.proofs.FoundLaws.{combine_assoc, combine_comm, combine_nothing, nothing_combine, members_found_is}
 
 -- ---- the end of a frame
@@ -26,16 +27,15 @@ pub rest_end : (n : ℕ) (p : Place) → n ≡ 0 → rest_found n p ≡ ended p 
 unfolding elements_by
 rest_end n p e = ap (λ (k : ℕ). rest_found k p) e
 
+-- a frame of no values at the end of the payload holds nothing
 pub at_end : (n : ℕ) (p : Place) → n ≡ 0 → length p.rest ≡ 0 → rest_found n p ≡ Some nothing
 at_end n p e h = rest_end n p e ∙ rw (eq-eqb (length p.rest) 0 h) refl
 
+-- a frame of no values with bytes behind it can not be read
 pub past_end : (n : ℕ) (p : Place) → n ≡ 0 → (length p.rest ≡ 0 → ⊥) → rest_found n p ≡ None
 past_end n p e h = rest_end n p e ∙ rw (ne_eqb (length p.rest) 0 h) refl
 
 -- ---- the next value of a frame
-
-less_one : (n : ℕ) → 0 < n → suc (n - 1) ≡ n
-less_one n h = omega arith
 
 end_both : (b : Bool) (f g : Found) → only_if b (Some (both f g)) ≡ combine (Some f) (only_if b (Some g))
 end_both true f g = refl
@@ -44,7 +44,8 @@ end_both false f g = refl
 abbrev first_of : Option Tree → Option (Elements × Place) → Option (Elements × Place)
 first_of a r = a >>= λ t. r >>= λ ts. Some (element t ts.0, ts.1)
 
-one_more : (a : Option Tree) (r : Option (Elements × Place)) → (first_of a r >>= λ r. ended r.1 (elements_found r.0)) ≡ combine (option_map tree_found a) (r >>= λ r. ended r.1 (elements_found r.0))
+one_more : (a : Option Tree) (r : Option (Elements × Place))
+    → (first_of a r >>= λ r. ended r.1 (elements_found r.0)) ≡ combine (option_map tree_found a) (r >>= λ r. ended r.1 (elements_found r.0))
 one_more None r = refl
 one_more (Some t) None = refl
 one_more (Some t) (Some r) = end_both (eqb (length r.1.rest) 0) (tree_found t) (elements_found r.0)
@@ -53,15 +54,19 @@ first_none : (n : ℕ) (p : Place) → item_at p ≡ None → rest_found (suc n)
 unfolding elements_by
 first_none n p e = rw e refl
 
-first_some : (n : ℕ) (p q : Place) (x : Item) → item_at p ≡ Some (x, q) → rest_found (suc n) p ≡ combine (option_map tree_found (item_tree p.at x)) (rest_found n q)
+first_some : (n : ℕ) (p q : Place) (x : Item) → item_at p ≡ Some (x, q)
+    → rest_found (suc n) p ≡ combine (option_map tree_found (item_tree p.at x)) (rest_found n q)
 unfolding elements_by
 first_some n p q x e = rw e (one_more (item_tree p.at x) (elements_by read n q))
 
 module _ (n : ℕ) (p : Place) (some : 0 < n) where
+  -- where no item is, what is left can not be read
   pub rest_none : None ≡ item_at p → rest_found n p ≡ None
   rest_none e = ap (λ (k : ℕ). rest_found k p) (sym (less_one n some)) ∙ first_none (n - 1) p (sym e)
 
-  pub rest_some : (x : Item) (q : Place) → Some (x, q) ≡ item_at p → rest_found n p ≡ combine (option_map tree_found (item_tree p.at x)) (rest_found (n - 1) q)
+  -- what is left is found in the next item and in the others
+  pub rest_some : (x : Item) (q : Place) → Some (x, q) ≡ item_at p
+      → rest_found n p ≡ combine (option_map tree_found (item_tree p.at x)) (rest_found (n - 1) q)
   rest_some x q e = ap (λ (k : ℕ). rest_found k p) (sym (less_one n some)) ∙ first_some (n - 1) p q x (sym e)
 
 -- ---- an item
@@ -73,10 +78,12 @@ item_scalar at x other = rw (ne_eqb x.kind 5 other) (go (scalar_of at x))
     go None = refl
     go (Some s) = refl
 
-pub scalar_none : (at : ℕ) (x : Item) → (x.kind ≡ 5 → ⊥) → None ≡ option_map scalar_found (scalar_of at x) → option_map tree_found (item_tree at x) ≡ None
+pub scalar_none : (at : ℕ) (x : Item) → (x.kind ≡ 5 → ⊥) → None ≡ option_map scalar_found (scalar_of at x)
+    → option_map tree_found (item_tree at x) ≡ None
 scalar_none at x other e = item_scalar at x other ∙ sym e
 
-pub scalar_some : (at : ℕ) (x : Item) (f : Found) → (x.kind ≡ 5 → ⊥) → Some f ≡ option_map scalar_found (scalar_of at x) → option_map tree_found (item_tree at x) ≡ combine (Some f) (Some nothing)
+pub scalar_some : (at : ℕ) (x : Item) (f : Found) → (x.kind ≡ 5 → ⊥) → Some f ≡ option_map scalar_found (scalar_of at x)
+    → option_map tree_found (item_tree at x) ≡ combine (Some f) (Some nothing)
 scalar_some at x f other e = item_scalar at x other ∙ sym e ∙ sym (combine_nothing (Some f))
 
 inside_of : (at : ℕ) (x : Item) → x.kind ≡ 5 → item_tree at x ≡ (unpadded at x.piece >>= read)
@@ -85,9 +92,11 @@ inside_of at x five = rw (eq-eqb x.kind 5 five) refl
 pub inside_none : (at : ℕ) (x : Item) → x.kind ≡ 5 → None ≡ unpadded at x.piece → option_map tree_found (item_tree at x) ≡ None
 inside_none at x five e = ap (option_map tree_found) (inside_of at x five ∙ ap (λ (r : Option (List ℕ)). r >>= read) (sym e))
 
-pub inside_some : (at : ℕ) (x : Item) (b : List ℕ) → x.kind ≡ 5 → Some b ≡ unpadded at x.piece → option_map tree_found (item_tree at x) ≡ container_found b
+pub inside_some : (at : ℕ) (x : Item) (b : List ℕ) → x.kind ≡ 5 → Some b ≡ unpadded at x.piece
+    → option_map tree_found (item_tree at x) ≡ container_found b
 inside_some at x b five e = ap (option_map tree_found) (inside_of at x five ∙ ap (λ (r : Option (List ℕ)). r >>= read) (sym e))
 
+-- an item of kind 5 is no scalar
 pub is_inside : (at : ℕ) (x : Item) (b : List ℕ) → x.kind ≡ 5 → Some b ≡ unpadded at x.piece → IsInside at x
 is_inside at x b five e s h = read_no_scalar b s (ap (λ (r : Option (List ℕ)). r >>= read) e ∙ sym (inside_of at x five) ∙ h)
 
@@ -101,7 +110,9 @@ array_end : (r : Option (Elements × Place)) → option_map tree_found (r >>= λ
 array_end None = refl
 array_end (Some x) = end_tree (eqb (length x.1.rest) 0) (array x.0)
 
-object_end : (ks : List (List ℕ)) (r : Option (Elements × Place)) → ((x : Elements × Place) → r ≡ Some x → length ks ≡ count x.0) → option_map tree_found (r >>= λ x. ended x.1 (object (members ks x.0))) ≡ combine (Some (keys_found ks)) (r >>= λ r. ended r.1 (elements_found r.0))
+object_end : (ks : List (List ℕ)) (r : Option (Elements × Place)) → ((x : Elements × Place) → r ≡ Some x → length ks ≡ count x.0)
+    → option_map tree_found (r >>= λ x. ended x.1 (object (members ks x.0)))
+    ≡ combine (Some (keys_found ks)) (r >>= λ r. ended r.1 (elements_found r.0))
 object_end ks None n = refl
 object_end ks (Some x) n =
     end_tree (eqb (length x.1.rest) 0) (object (members ks x.0))
@@ -112,24 +123,36 @@ module _ (b : List ℕ) where
   opened_by : (o : Option (Form × ℕ × Place)) → o ≡ opened b → container_found b ≡ option_map tree_found (o >>= λ o. held_by read o.0 o.1 o.2)
   opened_by o e = ap (option_map tree_found) (read_unroll b ∙ ap (λ (o : Option (Form × ℕ × Place)). o >>= λ o. held_by read o.0 o.1 o.2) (sym e))
 
+  -- what is not opened is no container
   pub not_opened : None ≡ opened b → container_found b ≡ None
   not_opened e = opened_by None e
 
-  pub array_found : (c : ℕ) (p : Place) → Some (list, c, p) ≡ opened b → container_found b ≡ combine (Some nothing) (rest_found c p)
-  array_found c p e = opened_by (Some (list, c, p)) e ∙ array_end (elements_by read c p) ∙ sym (nothing_combine (rest_found c p))
+  -- in an array is found what is found in its elements
+  pub array_found : (c : ℕ) (p : Place) → Some (Array, c, p) ≡ opened b → container_found b ≡ combine (Some nothing) (rest_found c p)
+  array_found c p e = opened_by (Some (Array, c, p)) e ∙ array_end (elements_by read c p) ∙ sym (nothing_combine (rest_found c p))
 
-  pub lone_found : (c : ℕ) (p : Place) → Some (lone, c, p) ≡ opened b → container_found b ≡ None
-  lone_found c p e = opened_by (Some (lone, c, p)) e
+  -- a root scalar is no container inside
+  pub lone_found : (c : ℕ) (p : Place) → Some (Lone, c, p) ≡ opened b → container_found b ≡ None
+  lone_found c p e = opened_by (Some (Lone, c, p)) e
 
-  module _ (c : ℕ) (p : Place) (e : Some (pairs, c, p) ≡ opened b) where
-    object_by : (k : Option (List (List ℕ) × Place)) → k ≡ keys_at c None p → container_found b ≡ option_map tree_found (k >>= λ k. elements_by read c k.1 >>= λ r. ended r.1 (object (members k.0 r.0)))
-    object_by k h = opened_by (Some (pairs, c, p)) e ∙ ap (λ (k : Option (List (List ℕ) × Place)). option_map tree_found (k >>= λ k. elements_by read c k.1 >>= λ r. ended r.1 (object (members k.0 r.0)))) (sym h)
+  module _ (c : ℕ) (p : Place) (e : Some (Object, c, p) ≡ opened b) where
+    object_by : (k : Option (List (List ℕ) × Place)) → k ≡ keys_at c None p
+        → container_found b ≡ option_map tree_found (k >>= λ k. elements_by read c k.1 >>= λ r. ended r.1 (object (members k.0 r.0)))
+    object_by k h =
+        opened_by (Some (Object, c, p)) e
+        ∙ ap
+        (λ (k : Option (List (List ℕ) × Place)). option_map tree_found (k >>= λ k. elements_by read c k.1 >>= λ r. ended r.1 (object (members k.0 r.0))))
+        (sym h)
 
+    -- an object without its keys is none
     pub no_keys : None ≡ keys_at c None p → container_found b ≡ None
     no_keys h = object_by None h
 
-    pub object_found : (k : List (List ℕ) × Place) → Some k ≡ keys_at c None p → container_found b ≡ combine (Some (keys_found k.0)) (rest_found c k.1)
-    object_found k h = object_by (Some k) h ∙ object_end k.0 (elements_by read c k.1) (λ x g. keys_count c p k (sym h) ∙ sym (elements_count read c k.1 x g))
+    -- in an object is found what is found in its keys and values
+    pub object_found : (k : List (List ℕ) × Place) → Some k ≡ keys_at c None p
+        → container_found b ≡ combine (Some (keys_found k.0)) (rest_found c k.1)
+    object_found k h =
+        object_by (Some k) h ∙ object_end k.0 (elements_by read c k.1) (λ x g. keys_count c p k (sym h) ∙ sym (elements_count read c k.1 x g))
 
 -- ---- flat trees
 
@@ -149,24 +172,28 @@ module _ (b : List ℕ) (t : Tree) (is : read b ≡ Some t) (low : nest t ≤ 1)
   held_is : (f : Form) (c : ℕ) (p : Place) → Some (f, c, p) ≡ opened b → held_by read f c p ≡ Some t
   held_is f c p e = ap (λ (o : Option (Form × ℕ × Place)). o >>= λ o. held_by read o.0 o.1 o.2) e ∙ sym (read_unroll b) ∙ is
 
-  pub array_flat : (c : ℕ) (p : Place) → Some (list, c, p) ≡ opened b → Flat c p
+  -- a flat array holds scalars
+  pub array_flat : (c : ℕ) (p : Place) → Some (Array, c, p) ≡ opened b → Flat c p
   array_flat c p e r h =
-      let a = bind_some (elements_by read c p) (λ r. ended r.1 (array r.0)) t (held_is list c p e) in
+      let a = bind_some (elements_by read c p) (λ r. ended r.1 (array r.0)) t (held_is Array c p e) in
       let d = ended_is a.0.1 (array a.0.0) t a.2 in
       let same : a.0 ≡ r = some_is a.0 r (sym a.1 ∙ h) in
       let n : nest t ≡ 1 + nest_elements a.0.0 = ap nest (sym d.1) in
       subst (λ (y : Elements × Place). nest_elements y.0 ≡ 0) same (omega arith)
 
-  pub object_flat : (c : ℕ) (p : Place) → Some (pairs, c, p) ≡ opened b → (k : List (List ℕ) × Place) → Some k ≡ keys_at c None p → Flat c k.1
+  -- a flat object holds scalars
+  pub object_flat : (c : ℕ) (p : Place) → Some (Object, c, p) ≡ opened b → (k : List (List ℕ) × Place) → Some k ≡ keys_at c None p → Flat c k.1
   object_flat c p e k g r h =
-      let j = bind_some (keys_at c None p) (λ k. elements_by read c k.1 >>= λ r. ended r.1 (object (members k.0 r.0))) t (held_is pairs c p e) in
+      let j = bind_some (keys_at c None p) (λ k. elements_by read c k.1 >>= λ r. ended r.1 (object (members k.0 r.0))) t (held_is Object c p e) in
       let same : j.0 ≡ k = some_is j.0 k (sym j.1 ∙ sym g) in
-      let rest : (elements_by read c k.1 >>= λ r. ended r.1 (object (members k.0 r.0))) ≡ Some t = subst (λ (y : List (List ℕ) × Place). (elements_by read c y.1 >>= λ r. ended r.1 (object (members y.0 r.0))) ≡ Some t) same j.2 in
+      let rest : (elements_by read c k.1 >>= λ r. ended r.1 (object (members k.0 r.0))) ≡ Some t =
+      subst (λ (y : List (List ℕ) × Place). (elements_by read c y.1 >>= λ r. ended r.1 (object (members y.0 r.0))) ≡ Some t) same j.2 in
       let a = bind_some (elements_by read c k.1) (λ r. ended r.1 (object (members k.0 r.0))) t rest in
       let d = ended_is a.0.1 (object (members k.0 a.0.0)) t a.2 in
       let at : a.0 ≡ r = some_is a.0 r (sym a.1 ∙ h) in
       let n : nest t ≡ 1 + nest_members (members k.0 a.0.0) = ap nest (sym d.1) in
-      let m : nest_members (members k.0 a.0.0) ≡ nest_elements a.0.0 = members_nest k.0 a.0.0 (keys_count c p k (sym g) ∙ sym (elements_count read c k.1 a.0 a.1)) in
+      let m : nest_members (members k.0 a.0.0) ≡ nest_elements a.0.0 =
+      members_nest k.0 a.0.0 (keys_count c p k (sym g) ∙ sym (elements_count read c k.1 a.0 a.1)) in
       subst (λ (y : Elements × Place). nest_elements y.0 ≡ 0) at (omega arith)
 
 -- what was found of the rest was read
@@ -191,12 +218,17 @@ next_read n p q x r e h =
     let c = bind_some (elements_by read n q) (λ ts. Some (element b.0 ts.0, ts.1)) r b.2 in
     record { tree = b.0; more = c.0; reads = b.1; goes_on = c.1; whole = some_is (element b.0 c.0.0, c.0.1) r c.2 }
 
-module _ (n : ℕ) (p q : Place) (x : Item) (some : 0 < n) (e : Some (x, q) ≡ item_at p) (g : Found) (there : rest_found n p ≡ Some g) (flat : Flat n p) where
+-- a value is left of n from p on: x, with q behind it
+pub record Left (n : ℕ) (p : Place) (x : Item) (q : Place) : Type 0 where
+  pub some : 0 < n
+  pub reads : Some (x, q) ≡ item_at p
+
+module _ {n : ℕ} {p q : Place} {x : Item} (left : Left n p x q) (g : Found) (there : rest_found n p ≡ Some g) (flat : Flat n p) where
   next_flat : (r : Elements × Place) × Next (n - 1) p x q r × (nest_elements r.0 ≡ 0)
   next_flat =
       let r = rest_read n p g there in
-      let h : elements_by read (suc (n - 1)) p ≡ Some r.0 = ap (λ (k : ℕ). elements_by read k p) (less_one n some) ∙ r.1 in
-      (r.0, next_read (n - 1) p q x r.0 e h, flat r.0 r.1)
+      let h : elements_by read (suc (n - 1)) p ≡ Some r.0 = ap (λ (k : ℕ). elements_by read k p) (less_one n left.some) ∙ r.1 in
+      (r.0, next_read (n - 1) p q x r.0 left.reads h, flat r.0 r.1)
 
   -- what is left is flat too
   pub stays_flat : Flat (n - 1) q
@@ -233,26 +265,34 @@ weight-append [] f = omega arith
 weight-append (g ∷ fs) f = omega (arith, weight-append fs f)
 
 -- a frame put off behind others
-pub put_off : (fs all : List Frame) (f : Frame) → all ≡ fs ++ f ∷ [] → (frames_found all ≡ combine (frame_found f) (frames_found fs)) × (frames_weight all ≡ frame_weight f + frames_weight fs)
+pub put_off : (fs all : List Frame) (f : Frame) → all ≡ fs ++ f ∷ []
+    → (frames_found all ≡ combine (frame_found f) (frames_found fs)) × (frames_weight all ≡ frame_weight f + frames_weight fs)
 put_off fs all f e = (ap frames_found e ∙ frames-append fs f, ap frames_weight e ∙ weight-append fs f)
 
 -- ---- the code's values
 
-pub form_open : (s t : Shape) (b : List ℕ) (c : ℕ) (p : Place) → s ≡ t → Some (form s, c, p) ≡ opened b → Some (form t, c, p) ≡ opened b
-form_open s t b c p is e = subst (λ (u : Shape). Some (form u, c, p) ≡ opened b) is e
+-- a container that was opened, by its form
+pub opened_as : {f g : Form} {c : ℕ} {p : Place} (b : List ℕ) → f ≡ g → Some (f, c, p) ≡ opened b → Some (g, c, p) ≡ opened b
+opened_as {c = c} {p = p} b is e = subst (λ (u : Form). Some (u, c, p) ≡ opened b) is e
 
 pub record KeysRead (r : Option (List (List ℕ) × Place)) (f : Found) (q : Place) : Type 0 where
   pub names : List (List ℕ)
   pub reads : Some (names, q) ≡ r
   pub found : keys_found names ≡ f
 
+-- the keys in which something was found, as they are read
 pub keys_read : (r : Option (List (List ℕ) × Place)) (f : Found) (q : Place) → Some (f, q) ≡ keys_after nothing r → KeysRead r f q
 keys_read None f q e = absurd cc
 keys_read (Some k) f q e =
     let same : ◌≡◌ {A = Found × Place} (keys_found k.0, k.1) (f, q) = some_is (keys_found k.0, k.1) (f, q) (sym e) in
     let at : k.1 ≡ q = ap (λ (x : Found × Place). x.1) same in
-    record { names = k.0; reads = ap (λ (x : Place). let y : Option (List (List ℕ) × Place) = Some (k.0, x) in y) (sym at); found = ap (λ (x : Found × Place). x.0) same }
+    record {
+      names = k.0;
+      reads = ap (λ (x : Place). let y : Option (List (List ℕ) × Place) = Some (k.0, x) in y) (sym at);
+      found = ap (λ (x : Found × Place). x.0) same;
+    }
 
+-- where nothing can be told of keys, they can not be read
 pub none_read : (r : Option (List (List ℕ) × Place)) → None ≡ keys_after nothing r → None ≡ r
 none_read None e = refl
 none_read (Some k) e = absurd cc

@@ -14,9 +14,10 @@ use Rattle.hex.proofs.HexLemmas.{decode_of-err, decode_of-even, decode_of-odd, d
 use Rattle.jsonb_layout.proofs.Tools.{IsBytes}
 use Rattle.jsonb.specs.HexText.{IsFirstNotHex, IsHexPair, IsHexText}
 
-abbrev IsDigit : ℕ → Type 0
-IsDigit c = is_hex_digit c ≡ true
+abbrev IsHexDigit : ℕ → Type 0
+IsHexDigit c = is_hex_digit c ≡ true
 
+-- hex text has an even length
 pub even_hex : (text bytes : List ℕ) → IsHexText text bytes → length text % 2 ≡ 0
 even_hex [] [] h = refl
 even_hex [] (b ∷ bytes) h = absurd h
@@ -39,7 +40,7 @@ digit_reads None h = cc h
 digit_small : (c v : ℕ) → hex_digit_value c ≡ Some v → v < 16
 digit_small c v h = grind (arith)
 
-pair_reads : (x y : ℕ) → IsDigit x → IsDigit y → (byte : ℕ) × IsHexPair x y byte
+pair_reads : (x y : ℕ) → IsHexDigit x → IsHexDigit y → (byte : ℕ) × IsHexPair x y byte
 pair_reads x y hx hy =
     let high = digit_reads (hex_digit_value x) hx in
     let low = digit_reads (hex_digit_value y) hy in
@@ -68,11 +69,12 @@ digits_read : (text : List ℕ) → length text % 2 ≡ 0 → AllPass is_hex_dig
 digits_read [] even h = ([], tt)
 digits_read (x ∷ []) even h = absurd (omega arith)
 digits_read (x ∷ y ∷ text) even h =
-    let after = All-tail IsDigit x (y ∷ text) h in
-    let byte = pair_reads x y (All-head IsDigit x (y ∷ text) h) (All-head IsDigit y text after) in
-    let rest = digits_read text (omega arith) (All-tail IsDigit y text after) in
+    let after = All-tail IsHexDigit x (y ∷ text) h in
+    let byte = pair_reads x y (All-head IsHexDigit x (y ∷ text) h) (All-head IsHexDigit y text after) in
+    let rest = digits_read text (omega arith) (All-tail IsHexDigit y text after) in
     (byte.0 ∷ rest.0, (byte.1, rest.1))
 
+-- what is decoded is what the text stands for
 pub decoded_hex : (text bytes : List ℕ) → decode_of text ≡ Ok bytes → IsHexText text bytes
 decoded_hex text bytes e =
     let whole = decode_of-ok text bytes e in
@@ -91,7 +93,8 @@ Tells text OutOfMemory = Unit {0}
 not_odd : (text : List ℕ) (c place : ℕ) → length text % 2 ≡ 1 → decode_of text ≡ Err (InvalidHexCharacter c place) → ⊥
 not_odd text c place odd e = let o = decode_of-odd text odd in cc
 
-even_refused : (text : List ℕ) (error : FromHexError) (c place : ℕ) → decode_of text ≡ Err error → error ≡ InvalidHexCharacter c place → length text % 2 ≡ 0
+even_refused : (text : List ℕ) (error : FromHexError) (c place : ℕ) → decode_of text ≡ Err error → error ≡ InvalidHexCharacter c place
+    → length text % 2 ≡ 0
 even_refused text error c place e is =
     elim (cases_eq (length text % 2) 1) [
       | inl odd ↦ absurd (not_odd text c place odd (e ∙ ap Err is))
@@ -107,6 +110,7 @@ refused text error e =
           rw there.1 (rw (sym place) (record { even = even_refused text error _ _ e there.1; within = there.2; digits = there.4; here = there.3 }))
     ]
 
+-- why a text is not decoded
 pub tells : (text : List ℕ) (error : FromHexError) → (error ≡ OutOfMemory) ⊎ (decode_of text ≡ Err error) → Tells text error
 tells text error (inl memory) = rw memory tt
 tells text error (inr e) = refused text error e
@@ -114,21 +118,23 @@ tells text error (inr e) = refused text error e
 -- a text of digits has no first byte that is no digit
 pub all_digits : (text : List ℕ) (place : ℕ) → AllPass is_hex_digit text → place < length text → is_hex_digit (slice_index text place) ≡ false → ⊥
 all_digits [] place h within here = absurd (omega arith)
-all_digits (x ∷ text) zero h within here = absurd (false≢true (sym here ∙ All-head IsDigit x text h))
-all_digits (x ∷ text) (suc place) h within here = all_digits text place (All-tail IsDigit x text h) (omega arith) here
+all_digits (x ∷ text) zero h within here = absurd (false≢true (sym here ∙ All-head IsHexDigit x text h))
+all_digits (x ∷ text) (suc place) h within here = all_digits text place (All-tail IsHexDigit x text h) (omega arith) here
 
 first_once : (text : List ℕ) (i j : ℕ) → i < length text → AllPass is_hex_digit (take i text) → is_hex_digit (slice_index text i) ≡ false
     → j < length text → AllPass is_hex_digit (take j text) → is_hex_digit (slice_index text j) ≡ false → i ≡ j
 first_once [] i j lt h e lt' h' e' = absurd (omega arith)
 first_once (x ∷ text) zero zero lt h e lt' h' e' = refl
-first_once (x ∷ text) zero (suc j) lt h e lt' h' e' = absurd (false≢true (sym e ∙ All-head IsDigit x (take j text) h'))
-first_once (x ∷ text) (suc i) zero lt h e lt' h' e' = absurd (false≢true (sym e' ∙ All-head IsDigit x (take i text) h))
+first_once (x ∷ text) zero (suc j) lt h e lt' h' e' = absurd (false≢true (sym e ∙ All-head IsHexDigit x (take j text) h'))
+first_once (x ∷ text) (suc i) zero lt h e lt' h' e' = absurd (false≢true (sym e' ∙ All-head IsHexDigit x (take i text) h))
 first_once (x ∷ text) (suc i) (suc j) lt h e lt' h' e' =
-    ap suc (first_once text i j (omega arith) (All-tail IsDigit x (take i text) h) e (omega arith) (All-tail IsDigit x (take j text) h') e')
+    ap suc (first_once text i j (omega arith) (All-tail IsHexDigit x (take i text) h) e (omega arith) (All-tail IsHexDigit x (take j text) h') e')
 
+-- there is one first byte that is no digit
 pub one_first : (text : List ℕ) (i j : ℕ) → IsFirstNotHex text i → IsFirstNotHex text j → i ≡ j
 one_first text i j f g = first_once text i j f.within f.digits f.here g.within g.digits g.here
 
+-- hex text has no byte that is no digit
 pub hex_or_not : (text bytes : List ℕ) (place : ℕ) → IsHexText text bytes → IsFirstNotHex text place → ⊥
 hex_or_not text bytes place h first =
     let whole = decode_of-ok text bytes (hex_decodes text bytes h) in
@@ -136,12 +142,12 @@ hex_or_not text bytes place h first =
 
 -- ---- hex texts are ASCII
 
-digit_ascii : (c : ℕ) → IsDigit c → c < 128
+digit_ascii : (c : ℕ) → IsHexDigit c → c < 128
 digit_ascii c h = grind (arith)
 
 ascii_digits : (text : List ℕ) → AllPass is_hex_digit text → IsAscii text
 ascii_digits [] h = IsAscii-nil
-ascii_digits (x ∷ text) h = IsAscii-cons x text (digit_ascii x (All-head IsDigit x text h)) (ascii_digits text (All-tail IsDigit x text h))
+ascii_digits (x ∷ text) h = IsAscii-cons x text (digit_ascii x (All-head IsHexDigit x text h)) (ascii_digits text (All-tail IsHexDigit x text h))
 
 pub IsUtf8-from_hex : (text bytes : List ℕ) → IsHexText text bytes → IsUtf8 text
 IsUtf8-from_hex text bytes h = IsUtf8-from_ascii text (ascii_digits text ((decode_of-ok text bytes (hex_decodes text bytes h)).1))

@@ -2,8 +2,9 @@ pub mod Texts
 pub mod Groups
 pub mod FoundLaws
 pub mod KeyLoop
+pub mod Walks
 pub mod FrameLaws
-pub mod StepLaws
+pub mod AdvanceLaws
 pub mod TreeCauses
 pub mod RootLaws
 pub mod OwnLaws

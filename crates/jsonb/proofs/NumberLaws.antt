@@ -4,7 +4,7 @@ use mir.Val.{SFits}
 use Rattle.std.specs.Prelude.{◌&&◌, ◌*ℤ◌}
 use Rattle.std.specs.Int.{w16, from_le_bytes}
 use Rattle.std.proofs.lemmas.Nat.{pow-add}
-use Rattle.std.proofs.lemmas.Bool.{ltb-true}
+use Rattle.std.proofs.lemmas.Bool.{ltb-true, and_parts}
 use Rattle.std.proofs.lemmas.Int.{to_z-of_z}
 use Rattle.json_model.specs.Decimal.{Decimal, HasNarrowDigits, IsNarrow}
 use Rattle.json_model.specs.Tree.{number, scalar}
@@ -15,12 +15,14 @@ use Rattle.json_exact.specs.DecimalInverseLaws.{abs_signed}
 use Rattle.json_exact.specs.NumberInverseLaws.{signed_times}
 use Rattle.json_exact.proofs.NarrowLaws.{narrow_more}
 use Rattle.json_exact.proofs.WorthLaws.{one_record}
-use Rattle.jsonb_layout.specs.Numeric.{Header, joined, all_below, are_groups, IsValue}
-use Rattle.jsonb_layout.specs.Reading.{◌>>=◌, only_if, varlena_of, header_of, header_with, short_of, long_of, groups_of, value_of, numeric_of}
-use Rattle.jsonb_layout.proofs.Tools.{guard, chosen, bind_some, some_is, and_both}
+use Rattle.jsonb_layout.specs.Numeric.{joined, all_below, are_groups, IsValue}
+use Rattle.jsonb_layout.specs.declared.header.Header.{Header}
+use Rattle.jsonb_layout.specs.Options.{◌>>=◌, only_if}
+use Rattle.jsonb_layout.specs.inner.Reading.{varlena_of, header_of, header_with, short_of, long_of, groups_of, value_of, numeric_of}
+use Rattle.jsonb_layout.proofs.Tools.{guard, chosen, bind_some, some_is}
 use Rattle.jsonb_layout.proofs.Numbers.{value_takes}
 use Rattle.jsonb.proofs.TreeCauses.{json_of}
-use Rattle.jsonb.specs.Values.{value_of as tree_at, or_null, IsJsonTree}
+use Rattle.jsonb.specs.inner.Values.{value_of as tree_at, or_null, IsJsonTree}
 use Rattle.jsonb.specs.declared.kind.Kind.TheVariants as kinds
 
 -- ---- the bytes of the groups
@@ -42,7 +44,7 @@ same_groups (x ∷ []) gs e h = absurd cc
 same_groups (x ∷ y ∷ b) gs e h =
     let a = bind_some (groups_of b) (λ gs. Some ((x + 256 * y) ∷ gs)) gs e in
     let is : (x + 256 * y) ∷ a.0 ≡ gs = some_is ((x + 256 * y) ∷ a.0) gs a.2 in
-    let t = and_both (ltb (x + 256 * y) 10000) (all_below a.0) (ap all_below is ∙ h) in
+    let t = and_parts (ltb (x + 256 * y) 10000) (all_below a.0) (ap all_below is ∙ h) in
     let more = same_groups b a.0 a.1 t.1 in
     record { same = ap (λ (gs : List ℕ). (x + 256 * y) ∷ gs) more.same ∙ is; are = (ltb-true (x + 256 * y) 10000 t.0, more.are) }
 
@@ -83,7 +85,8 @@ worth_by n t f p u w e h =
     omega arith
 
 -- what the groups of a number are worth
-are_worth : (h : Header) (gs : List ℕ) (d : Decimal) (weight : ℤ) → IsValue h gs d → h.dscale ≤ 16383 → lifted weight ≡ h.lift → AreWorth weight gs (parts_in d)
+are_worth : (h : Header) (gs : List ℕ) (d : Decimal) (weight : ℤ) → IsValue h gs d → h.dscale ≤ 16383 → lifted weight ≡ h.lift
+    → AreWorth weight gs (parts_in d)
 are_worth h gs d weight v few lift =
     subst (λ (l : ℕ). parts_in d * 10000 ^ (length gs + 2 ^ 15) ≡ parts * (joined_in 10000 gs * 10000 ^ (l + 1))) (sym lift)
     (subst (λ (j : ℕ). parts_in d * 10000 ^ (length gs + 2 ^ 15) ≡ parts * (j * 10000 ^ (h.lift + 1))) (joined_same gs)
@@ -94,7 +97,8 @@ are_worth h gs d weight v few lift =
 is_worth : (m : Bool) (d : Decimal) → d.digits ≡ signed m (nat_abs d.digits) → d.places ≤ 16383 → IsWorth (signed m (parts_in d)) d
 is_worth m d sign few =
     signed_times m (parts_in d) (10 ^ d.places)
-    ∙ ap (λ (x : ℕ). signed m x) (products (nat_abs d.digits) (10 ^ (16383 - d.places)) (10 ^ d.places) ∙ ap (λ (x : ℕ). nat_abs d.digits * x) (parts_split d.places few))
+    ∙ ap (λ (x : ℕ). signed m x)
+    (products (nat_abs d.digits) (10 ^ (16383 - d.places)) (10 ^ d.places) ∙ ap (λ (x : ℕ). nat_abs d.digits * x) (parts_split d.places few))
     ∙ sym (signed_times m (nat_abs d.digits) parts)
     ∙ ap (λ (c : ℤ). c *ℤ pos parts) (sym sign)
   where
@@ -124,9 +128,12 @@ pub record Says (h : Header) (weight : ℤ) (b : List ℕ) (d : Decimal) : Type 
   pub few : h.dscale ≤ 16383
   pub sign : d.digits ≡ signed h.minus (nat_abs d.digits)
 
-says : (h : Header) (weight : ℤ) (b gs : List ℕ) (d : Decimal) → lifted weight ≡ h.lift → h.dscale < 2 ^ 14 → groups_of b ≡ Some gs → are_groups gs ≡ true → value_of h gs ≡ Some d → IsNarrow d → Says h weight b d
-says h weight b gs d lift fits e fit value narrow =
-    let below = (and_both (all_below gs) (ltb 0 (get_or gs 0 1)) (and_both (all_below gs && ltb 0 (get_or gs 0 1)) (ltb 0 (get_or gs (length gs - 1) 1)) fit).0).0 in
+says : {h : Header} {weight : ℤ} {b : List ℕ} (gs : List ℕ) {d : Decimal} → lifted weight ≡ h.lift → h.dscale < 2 ^ 14 → groups_of b ≡ Some gs
+    → are_groups gs ≡ true → value_of h gs ≡ Some d → IsNarrow d → Says h weight b d
+says {h = h} {weight = weight} {b = b} gs {d = d} lift fits e fit value narrow =
+    let below =
+    (and_parts (all_below gs) (ltb 0 (get_or gs 0 1)) (and_parts (all_below gs && ltb 0 (get_or gs 0 1)) (ltb 0 (get_or gs (length gs - 1) 1)) fit).0).0
+    in
     let same = same_groups b gs e below in
     let v = value_takes h gs d value in
     let few : h.dscale ≤ 16383 = omega arith in
@@ -139,12 +146,14 @@ says h weight b gs d lift fits e fit value narrow =
       sign = v.sign;
     }
 
-behind : (p body : List ℕ) (h : Header) (b : List ℕ) (d : Decimal) → numeric_of p ≡ Some d → Some body ≡ varlena_of p → Some (h, b) ≡ header_of body → (groups_of b >>= λ gs. only_if (are_groups gs) (value_of h gs)) ≡ Some d
+behind : (p body : List ℕ) (h : Header) (b : List ℕ) (d : Decimal) → numeric_of p ≡ Some d → Some body ≡ varlena_of p → Some (h, b) ≡ header_of body
+    → (groups_of b >>= λ gs. only_if (are_groups gs) (value_of h gs)) ≡ Some d
 unfolding numeric_of
 behind p body h b d e f g = rw (← f, ← g) at e
 
 -- ---- what the code meets
 
+-- a number that is read has a body
 pub body_there : (p : List ℕ) → IsJsonTree (tree_at kinds.Number p) → None ≡ varlena_of p → ⊥
 unfolding numeric_of
 body_there p json e =
@@ -152,6 +161,7 @@ body_there p json e =
     let r = n.reads in
     let h : ◌≡◌ {A = Option Decimal} None (Some d) = rw (← e) at r in cc
 
+-- and a header
 pub header_there : (p body : List ℕ) → IsJsonTree (tree_at kinds.Number p) → Some body ≡ varlena_of p → None ≡ header_of body → ⊥
 unfolding numeric_of
 header_there p body json e f =
@@ -160,20 +170,30 @@ header_there p body json e f =
     let h : ◌≡◌ {A = Option Decimal} None (Some d) = rw (← e, ← f) at r in cc
 
 -- the weight is passed by its bits
-pub number_says : (p body : List ℕ) (h : Header) (b : List ℕ) (weight : ℤ) → IsJsonTree (tree_at kinds.Number p) → Some body ≡ varlena_of p → Some (h, b) ≡ header_of body → SFits w16 weight → lifted weight ≡ h.lift
+pub number_says : (p : List ℕ) {body : List ℕ} {h : Header} {b : List ℕ} (weight : ℤ) → IsJsonTree (tree_at kinds.Number p) → Some body ≡ varlena_of p
+    → Some (h, b) ≡ header_of body → SFits w16 weight → lifted weight ≡ h.lift
     → (d : Decimal) × IsNumber p d × Says h (to_z w16 (of_z w16 weight)) b d
-number_says p body h b weight json e f fits lift =
+number_says p {body = body} {h = h} {b = b} weight json e f fits lift =
     let (d, n) = is_number p json in
     let a = bind_some (groups_of b) (λ gs. only_if (are_groups gs) (value_of h gs)) d (behind p body h b d n.reads e f) in
-    let g = guard (are_groups a.0) (value_of h a.0) d a.2 in
-    (d, n, says h (to_z w16 (of_z w16 weight)) b a.0 d (ap lifted (to_z-of_z w16 weight fits) ∙ lift) (dscale_fits body (h, b) (sym f)) a.1 g.0 g.1 n.narrow)
+    let g = guard (are_groups a.0) (value_of h a.0) d a.2 in (
+      d,
+      n,
+      says a.0 (ap lifted (to_z-of_z w16 weight fits) ∙ lift) (dscale_fits body (h, b) (sym f)) a.1 g.0 g.1
+          n.narrow,
+    )
 
 -- the fraction digits of the header write the number exactly
-pub exact : (h : Header) (weight : ℤ) (b : List ℕ) (d : Decimal) (x : ℤ) → Says h weight b d → x ≡ signed h.minus (parts_in d) → (q : ℕ) × (nat_abs x ≡ q * 10 ^ (16383 - h.dscale))
-exact h weight b d x s e = (nat_abs d.digits, ap nat_abs e ∙ abs_signed h.minus (parts_in d) ∙ ap (λ (f : ℕ). nat_abs d.digits * 10 ^ (16383 - f)) s.places)
+pub exact : (h : Header) (weight : ℤ) (b : List ℕ) (d : Decimal) (x : ℤ) → Says h weight b d → x ≡ signed h.minus (parts_in d)
+    → (q : ℕ) × (nat_abs x ≡ q * 10 ^ (16383 - h.dscale))
+exact h weight b d x s e =
+    (nat_abs d.digits, ap nat_abs e ∙ abs_signed h.minus (parts_in d) ∙ ap (λ (f : ℕ). nat_abs d.digits * 10 ^ (16383 - f)) s.places)
 
 -- what is worth as much, with as many fraction digits, is the number
-pub number_is : (p : List ℕ) (h : Header) (weight : ℤ) (b : List ℕ) (d : Decimal) (x : ℤ) (w : Decimal) → IsNumber p d → Says h weight b d → x ≡ signed h.minus (parts_in d) → w.places ≡ h.dscale → IsWorth x w → or_null (tree_at kinds.Number p) ≡ scalar (number w)
-number_is p h weight b d x w n s e places worth =
-    let same : d ≡ w = one_record x d w (subst (λ (y : ℤ). IsWorth y d) (sym e) (is_worth h.minus d s.sign (omega (arith, s.places, s.few)))) worth (s.places ∙ sym places) in
+pub number_is : {p : List ℕ} {h : Header} {weight : ℤ} {b : List ℕ} {d : Decimal} (x : ℤ) (w : Decimal) → IsNumber p d → Says h weight b d
+    → x ≡ signed h.minus (parts_in d) → w.places ≡ h.dscale → IsWorth x w → or_null (tree_at kinds.Number p) ≡ scalar (number w)
+number_is {h = h} {d = d} x w n s e places worth =
+    let same : d ≡ w =
+    one_record x d w (subst (λ (y : ℤ). IsWorth y d) (sym e) (is_worth h.minus d s.sign (omega (arith, s.places, s.few)))) worth
+    (s.places ∙ sym places) in
     ap (λ (r : Option Decimal). or_null (r >>= λ d. Some (scalar (number d)))) n.reads ∙ ap (λ (d : Decimal). scalar (number d)) same

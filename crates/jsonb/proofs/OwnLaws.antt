@@ -4,16 +4,17 @@ use Rattle.std.proofs.lemmas.Bool.{eq-eqb, ne_eqb, lt-ltb, cases_lt}
 use Rattle.std.proofs.lemmas.List.{length-append, length-replicate, length-drop}
 use Rattle.json_model.specs.Decimal.{Decimal}
 use Rattle.json_model.specs.Tree.{Scalar, null, boolean, number, string, Tree, scalar}
-use Rattle.jsonb_layout.specs.Layout.{Item}
-use Rattle.jsonb_layout.specs.Reading.{◌>>=◌, only_if, pad, unpadded, numeric_of, scalar_of}
+use Rattle.jsonb_layout.specs.Layout.{Item, pad}
+use Rattle.jsonb_layout.specs.Options.{◌>>=◌, only_if}
+use Rattle.jsonb_layout.specs.inner.Reading.{unpadded, numeric_of, scalar_of}
 use Rattle.jsonb_layout.specs.Stands.{padding}
-use Rattle.jsonb_layout.specs.Trees.{item_tree}
+use Rattle.jsonb_layout.specs.inner.Trees.{item_tree}
 use Rattle.jsonb_layout.proofs.Scalars.{unpadded_takes}
-use Rattle.jsonb_layout.proofs.Tools.{some_is}
-use Rattle.jsonb_layout.specs.SeatReading.{seat_of}
+use Rattle.jsonb_layout.proofs.Tools.{some_is, some}
+use Rattle.jsonb_layout.specs.inner.SeatReading.{seat_of}
 use Rattle.jsonb_layout.specs.Seats.{Seat, own_bytes, where_it_is}
 use Rattle.jsonb.specs.Seated.{seat_tree}
-use Rattle.jsonb.specs.Values.{value_of, IsJsonTree, is_short, or_null, kind_number, kind_of, own_of, HasPad}
+use Rattle.jsonb.specs.inner.Values.{value_of, IsJsonTree, is_short, or_null, kind_number, kind_of, own_of, HasPad}
 use Rattle.jsonb.specs.declared.kind.Kind.{Kind}
 use Rattle.jsonb.specs.declared.kind.Kind.TheVariants as kinds
 
@@ -39,14 +40,14 @@ padded_by k at x e json = go (unpadded at x.piece) refl (subst IsJsonTree e json
         let d = unpadded_takes at x.piece q u in
         let same : value_of k (drop (pad at) x.piece) ≡ Some t = ap (value_of k) (sym d.1) ∙ v in
         let tree : item_tree at x ≡ Some t = e ∙ ap (λ (o : Option (List ℕ)). o >>= value_of k) u ∙ v in
-        record { fits = omega (arith, ap length d.0, length-append (padding at) q, length-replicate {A = ℕ} (pad at) 0); owned = owns k (drop (pad at) x.piece) t (item_tree at x) same tree json }
+        record {
+          fits = omega (arith, ap length d.0, length-append (padding at) q, length-replicate {A = ℕ} (pad at) 0);
+          owned = owns k (drop (pad at) x.piece) t (item_tree at x) same tree json;
+        }
 
     go : (r : Option (List ℕ)) → unpadded at x.piece ≡ r → IsJsonTree (r >>= value_of k) → Padded k at x
     go None u h = absurd cc
     go (Some q) u h = end q u (value_of k q) refl h
-
-abbrev some_tree : Tree → Option Tree
-some_tree t = Some t
 
 abbrev pub seat_by : ℕ → ℕ → List ℕ → Seat
 seat_by at kind bytes = record { at = at; kind = kind; bytes = bytes }
@@ -57,11 +58,16 @@ module _ (at : ℕ) (x : Item) (json : IsJsonTree (item_tree at x)) where
 
   own_string : x.kind ≡ 0 → Owns kinds.String x.piece (item_tree at x)
   unfolding scalar_of
-  own_string k = owns kinds.String x.piece (scalar (string x.piece)) (item_tree at x) refl (scalar_is (Some (string x.piece)) (λ h. absurd (omega arith)) (rw k refl)) json
+  own_string k =
+      owns kinds.String x.piece (scalar (string x.piece)) (item_tree at x) refl
+      (scalar_is (Some (string x.piece)) (λ h. absurd (omega arith)) (rw k refl)) json
 
   own_number : x.kind ≡ 1 → Padded kinds.Number at x
   unfolding scalar_of
-  own_number k = padded_by kinds.Number at x (scalar_is (unpadded at x.piece >>= λ q. numeric_of q >>= λ d. Some (number d)) (λ h. absurd (omega arith)) (rw k refl) ∙ go (unpadded at x.piece)) json
+  own_number k =
+      padded_by kinds.Number at x
+      (scalar_is (unpadded at x.piece >>= λ q. numeric_of q >>= λ d. Some (number d)) (λ h. absurd (omega arith)) (rw k refl)
+      ∙ go (unpadded at x.piece)) json
     where
       one : (r : Option Decimal) → ((r >>= λ d. Some (number d)) >>= λ s. Some (scalar s)) ≡ (r >>= λ d. Some (scalar (number d)))
       one None = refl
@@ -83,7 +89,8 @@ module _ (at : ℕ) (x : Item) (json : IsJsonTree (item_tree at x)) where
   if_empty true s = inl refl
   if_empty false s = inr refl
 
-  own_empty : (k : Kind) (s : Scalar) (b : Bool) → value_of k x.piece ≡ Some (scalar s) → (x.kind ≡ 5 → ⊥) → scalar_of at x ≡ only_if b (Some s) → Owns k x.piece (item_tree at x)
+  own_empty : (k : Kind) (s : Scalar) (b : Bool) → value_of k x.piece ≡ Some (scalar s) → (x.kind ≡ 5 → ⊥) → scalar_of at x ≡ only_if b (Some s)
+      → Owns k x.piece (item_tree at x)
   own_empty k s b v other e =
       let is = scalar_is (only_if b (Some s)) other e in
       let one = one_scalar (only_if b (Some s)) s (if_empty b s) (subst IsJsonTree is json) in
@@ -125,11 +132,13 @@ module _ (at : ℕ) (x : Item) (json : IsJsonTree (item_tree at x)) where
 
   kind_cases : (n : ℕ) → n < 6 → x.kind ≡ n → (k : Kind) × (kind_of n ≡ Some k) × KindIs k
   kind_cases zero lt e = (kinds.String, refl, record { number = e; fits = tt; owned = own_string e; own = own_is kinds.String e })
-  kind_cases (suc zero) lt e = let p = own_number e in (kinds.Number, refl, record { number = e; fits = p.fits; owned = p.owned; own = own_is kinds.Number e })
+  kind_cases (suc zero) lt e =
+      let p = own_number e in (kinds.Number, refl, record { number = e; fits = p.fits; owned = p.owned; own = own_is kinds.Number e })
   kind_cases (suc (suc zero)) lt e = (kinds.False, refl, record { number = e; fits = tt; owned = own_false e; own = own_is kinds.False e })
   kind_cases (suc (suc (suc zero))) lt e = (kinds.True, refl, record { number = e; fits = tt; owned = own_true e; own = own_is kinds.True e })
   kind_cases (suc (suc (suc (suc zero)))) lt e = (kinds.Null, refl, record { number = e; fits = tt; owned = own_null e; own = own_is kinds.Null e })
-  kind_cases (suc (suc (suc (suc (suc zero))))) lt e = let p = own_container e in (kinds.Container, refl, record { number = e; fits = p.fits; owned = p.owned; own = own_is kinds.Container e })
+  kind_cases (suc (suc (suc (suc (suc zero))))) lt e =
+      let p = own_container e in (kinds.Container, refl, record { number = e; fits = p.fits; owned = p.owned; own = own_is kinds.Container e })
   kind_cases (suc (suc (suc (suc (suc (suc n)))))) lt e = absurd (omega arith)
 
   kind_small : x.kind < 6
@@ -145,23 +154,29 @@ module _ (at : ℕ) (x : Item) (json : IsJsonTree (item_tree at x)) where
   pub seat_has_tree : (word begin : ℕ) → Some (seat_tree (seat_of word begin at x)) ≡ item_tree at x
   seat_has_tree word begin =
       let k = kind_found in
-      ap (λ (r : Option Kind). some_tree (or_null (r >>= λ k. value_of k (own_bytes at x)))) k.1
-      ∙ ap (λ (b : List ℕ). some_tree (or_null (value_of k.0 b))) k.2.own
+      ap (λ (r : Option Kind). some (or_null (r >>= λ k. value_of k (own_bytes at x)))) k.1
+      ∙ ap (λ (b : List ℕ). some (or_null (value_of k.0 b))) k.2.own
       ∙ k.2.owned.same
 
+  -- an item that is read has a kind
   pub kind_there : None ≡ kind_of x.kind → ⊥
   kind_there e = let k = kind_cases x.kind kind_small refl in let h : ◌≡◌ {A = Option Kind} None (Some k.0) = e ∙ k.1 in cc
 
+  -- what the kind of an item says of it
   pub kind_is : (k : Kind) → Some k ≡ kind_of x.kind → KindIs k
   kind_is k e = let c = kind_cases x.kind kind_small refl in subst KindIs (some_is c.0 k (sym c.1 ∙ sym e)) c.2
 
-  pub seat_is : (word begin place : ℕ) (k : Kind) (own : List ℕ) → Some k ≡ kind_of x.kind → own ≡ own_of k at x.piece → place ≡ where_it_is own word (begin + (length x.piece - length own)) → seat_by place (kind_number k) own ≡ seat_of word begin at x
+  -- where a node is made, its item lies
+  pub seat_is : (word begin place : ℕ) (k : Kind) (own : List ℕ) → Some k ≡ kind_of x.kind → own ≡ own_of k at x.piece
+      → place ≡ where_it_is own word (begin + (length x.piece - length own)) → seat_by place (kind_number k) own ≡ seat_of word begin at x
   seat_is word begin place k own e f g =
       let is = kind_is k e in
       ap (λ (n : ℕ). seat_by n (kind_number k) own) g
       ∙ ap (λ (b : List ℕ). seat_by (where_it_is b word (begin + (length x.piece - length b))) (kind_number k) b) (f ∙ sym is.own)
-      ∙ ap (λ (n : ℕ). seat_by (where_it_is (own_bytes at x) word (begin + (length x.piece - length (own_bytes at x)))) n (own_bytes at x)) (sym is.number)
+      ∙ ap (λ (n : ℕ). seat_by (where_it_is (own_bytes at x) word (begin + (length x.piece - length (own_bytes at x)))) n (own_bytes at x))
+      (sym is.number)
 
+-- the own bytes of a short piece are short
 pub short_own : (k : Kind) (at : ℕ) (piece : List ℕ) → length piece < 2 ^ 28 → is_short k (own_of k at piece) ≡ true
 short_own kinds.String at piece lt = refl
 short_own kinds.Number at piece lt = lt-ltb (length (drop (pad at) piece)) (2 ^ 28) (omega (arith, length-drop (pad at) piece))
@@ -171,9 +186,11 @@ short_own kinds.Null at piece lt = refl
 short_own kinds.Container at piece lt = refl
 
 -- a value ends where its piece does, or has no bytes and is before it
-pub place_room : (own : List ℕ) (word begin place result top : ℕ) → result ≡ where_it_is own word place → word ≤ begin → place + length own < top → begin < top → result + length own < top
-place_room own word begin place result top e le lt less = go (length own) e lt
+pub place_room : (own : List ℕ) (place : ℕ) {word begin result top : ℕ} → result ≡ where_it_is own word place → word ≤ begin → place + length own < top
+    → begin < top → result + length own < top
+place_room own place {word = word} {begin = begin} {result = result} {top = top} e le lt less = go (length own) e lt
   where
     go : (n : ℕ) → result ≡ cond (eqb n 0) word place → place + n < top → result + n < top
     go zero e lt = omega (arith, e, le, less)
-    go (suc n) e lt = let k : result ≡ place = e ∙ ap (λ (b : Bool). cond b word place) (ne_eqb (suc n) 0 (λ h. absurd (omega arith))) in omega (arith, k, lt)
+    go (suc n) e lt =
+        let k : result ≡ place = e ∙ ap (λ (b : Bool). cond b word place) (ne_eqb (suc n) 0 (λ h. absurd (omega arith))) in omega (arith, k, lt)

@@ -4,21 +4,24 @@ use Rattle.std.specs.Prelude.{Result, Ok, Err, IfOk, IsSomeAnd, option_map}
 use Rattle.std.proofs.lemmas.Bool.{ne_eqb}
 use Rattle.json_model.specs.Nest.{nest}
 use Rattle.json_model.specs.Tree.{Scalar, Tree, scalar}
-use Rattle.jsonb_layout.specs.Layout.{Item, Form, list, pairs, lone}
-use Rattle.jsonb_layout.specs.Reading.{◌>>=◌, Place, scalar_of, opened, lone_in, lone_item}
+use Rattle.jsonb_layout.specs.Layout.{Item}
+use Rattle.jsonb_layout.specs.declared.form.Form.{Form}
+use Rattle.jsonb_layout.specs.declared.form.Form.TheVariants.{Array, Object, Lone}
+use Rattle.jsonb_layout.specs.Options.{◌>>=◌}
+use Rattle.jsonb_layout.specs.inner.Reading.{Place, scalar_of, opened, lone_in, lone_item}
 use Rattle.jsonb_layout.specs.Seats.{Seat, IsRoot, item_seat}
 use Rattle.jsonb_layout.specs.Stands.{Stands}
-use Rattle.jsonb_layout.specs.Trees.{read, held_by, root_in, tree_of, item_tree}
+use Rattle.jsonb_layout.specs.inner.Trees.{read, held_by, root_in, tree_of, item_tree}
 use Rattle.jsonb_layout.proofs.Containers.{tree_takes, tree_again}
 use Rattle.jsonb_layout.proofs.SeatRuns.{container_is_root, lone_is_root}
 use Rattle.jsonb_layout.proofs.Tools.{IsBytes, bind_some, some_is}
 use Rattle.jsonb_layout.proofs.Unrolled.{read_unroll}
 use Rattle.jsonb.specs.Found.{tree_found, scalar_found}
 use Rattle.jsonb.specs.Nodes.{node_tree}
-use Rattle.jsonb.specs.Reads.{lone_tree, Reads}
+use Rattle.jsonb.specs.inner.Reads.{lone_tree, Reads}
 use Rattle.jsonb.specs.Root.{Cause, IsRead, read_tree}
 use Rattle.jsonb.specs.Seated.{node_seat}
-use Rattle.jsonb.specs.Values.{is_clean, IsJsonTree}
+use Rattle.jsonb.specs.inner.Values.{is_clean, IsJsonTree}
 use Rattle.jsonb.specs.declared.error.JsonbError.{JsonbError}
 use Rattle.jsonb.specs.declared.error.JsonbError.TheVariants as errors
 use Rattle.jsonb.specs.declared.found.Found.{Found}
@@ -27,7 +30,9 @@ use Rattle.jsonb.proofs.TreeCauses.{of_text, of_narrow, text_of, json_of, differ
 
 -- ---- what is computed is the relation
 
-pub answers : (b : List ℕ) → IsBytes b → (r : Result JsonbNode JsonbError) → Reads (tree_of b) r → (r ≡ Err errors.OutOfMemory) ⊎ IsRead b (read_tree r)
+-- what is computed is what a user believes, but for want of memory
+pub answers : (b : List ℕ) → IsBytes b → (r : Result JsonbNode JsonbError) → Reads (tree_of b) r
+    → (r ≡ Err errors.OutOfMemory) ⊎ IsRead b (read_tree r)
 answers b fits (Ok n) (e, clean) = inr (tree_takes b (node_tree n) fits e, json_of (node_tree n) clean)
 answers b fits (Err errors.Malformed) e = inr (λ t h. let k : None ≡ Some t = sym e ∙ tree_again b t h in absurd cc)
 answers b fits (Err errors.NotText) h = inr (go (tree_of b) refl h)
@@ -37,12 +42,15 @@ answers b fits (Err errors.NotText) h = inr (go (tree_of b) refl h)
     go (Some t) e h = (t, tree_takes b t fits e, λ text. differ (tree_found t).not_text h (of_text t text))
 answers b fits (Err errors.NumberTooWide) h = inr (go (tree_of b) refl h)
   where
-    go : (r : Option Tree) → tree_of b ≡ r → IsSomeAnd r (λ t. ((tree_found t).not_text ≡ false) × ((tree_found t).wide ≡ true)) → Cause b errors.NumberTooWide
+    go : (r : Option Tree) → tree_of b ≡ r → IsSomeAnd r (λ t. ((tree_found t).not_text ≡ false) × ((tree_found t).wide ≡ true))
+        → Cause b errors.NumberTooWide
     go None e h = absurd h
     go (Some t) e h = (t, tree_takes b t fits e, text_of t h.0, λ narrow. differ (tree_found t).wide h.1 (of_narrow t narrow))
 answers b fits (Err errors.OutOfMemory) h = inl refl
 
-pub never_wants : (b : List ℕ) (r : Result JsonbNode JsonbError) → Reads (tree_of b) r → (t : Tree) → Stands b t → nest t ≤ 1 → r ≡ Err errors.OutOfMemory → ⊥
+-- a flat slice never wants memory
+pub never_wants : (b : List ℕ) (r : Result JsonbNode JsonbError) → Reads (tree_of b) r → (t : Tree) → Stands b t → nest t ≤ 1
+    → r ≡ Err errors.OutOfMemory → ⊥
 never_wants b (Ok n) h t s low e = absurd cc
 never_wants b (Err errors.Malformed) h t s low e = absurd cc
 never_wants b (Err errors.NotText) h t s low e = absurd cc
@@ -51,6 +59,7 @@ never_wants b (Err errors.OutOfMemory) h t s low e = h t (tree_again b t s) low
 
 -- ---- a root scalar
 
+-- the tree of a root scalar is that of its item
 pub lone_root : (b : List ℕ) (x : Item) → Some x ≡ lone_item b → tree_of b ≡ lone_tree x
 unfolding tree_of lone_item
 lone_root b x e =
@@ -60,10 +69,10 @@ lone_root b x e =
     ∙ ap (λ (f : Form). root_in f b) lone_is
     ∙ ap (λ (r : Option Item). r >>= λ x. lone_tree x) (again o)
   where
-    form_is : (f : Form) (p : Place) → lone_in f p ≡ Some x → f ≡ lone
-    form_is list p e = absurd cc
-    form_is pairs p e = absurd cc
-    form_is lone p e = refl
+    form_is : (f : Form) (p : Place) → lone_in f p ≡ Some x → f ≡ Lone
+    form_is Array p e = absurd cc
+    form_is Object p e = absurd cc
+    form_is Lone p e = refl
 
     again : (o : (o : Form × ℕ × Place) × (opened b ≡ Some o) × (lone_in o.0 o.2 ≡ Some x)) → lone_item b ≡ Some x
     again o = sym e
@@ -74,9 +83,9 @@ unfolding tree_of lone_item
 no_lone_root b e = go (opened b) refl
   where
     by : (f : Form) (c : ℕ) (p : Place) → opened b ≡ Some (f, c, p) → root_in f b ≡ read b
-    by list c p h = refl
-    by pairs c p h = refl
-    by lone c p h =
+    by Array c p h = refl
+    by Object c p h = refl
+    by Lone c p h =
         ap (λ (r : Option Item). r >>= λ x. lone_tree x) (sym e)
         ∙ sym (read_unroll b ∙ ap (λ (r : Option (Form × ℕ × Place)). r >>= λ o. held_by read o.0 o.1 o.2) h)
 
@@ -97,6 +106,7 @@ lone_found x f e = go (scalar_of 0 x) e
     go None e = absurd cc
     go (Some s) e = sym e
 
+-- a root scalar in which nothing is found is JSON
 pub lone_json : (x : Item) (f : Found) → Some f ≡ option_map scalar_found (scalar_of 0 x) → is_clean f ≡ true → IsJsonTree (lone_tree x)
 lone_json x f e clean = go (lone_tree x) (lone_found x f e)
   where
@@ -111,6 +121,7 @@ lone_none x e = go (scalar_of 0 x) e
     go None e = refl
     go (Some s) e = absurd cc
 
+-- its tree is that of an item at the front of a payload
 pub lone_is_item : (x : Item) (f : Found) → Some f ≡ option_map scalar_found (scalar_of 0 x) → lone_tree x ≡ item_tree 0 x
 lone_is_item x f e = go (scalar_of 0 x) refl e
   where
@@ -118,7 +129,9 @@ lone_is_item x f e = go (scalar_of 0 x) refl e
     go None h e = absurd cc
     go (Some s) h e = sym (rw (ne_eqb x.kind 5 (not_five x s h)) refl)
 
-pub lone_node : (x : Item) (f : Found) (n : JsonbNode) → Some f ≡ option_map scalar_found (scalar_of 0 x) → is_clean f ≡ true → Some (node_tree n) ≡ item_tree 0 x → (lone_tree x ≡ Some (node_tree n)) × (is_clean (tree_found (node_tree n)) ≡ true)
+-- its node has its tree
+pub lone_node : (x : Item) (f : Found) (n : JsonbNode) → Some f ≡ option_map scalar_found (scalar_of 0 x) → is_clean f ≡ true
+    → Some (node_tree n) ≡ item_tree 0 x → (lone_tree x ≡ Some (node_tree n)) × (is_clean (tree_found (node_tree n)) ≡ true)
 lone_node x f n e clean same =
     let is : lone_tree x ≡ Some (node_tree n) = lone_is_item x f e ∙ sym same in
     (is, ap is_clean (some_is (tree_found (node_tree n)) f (sym (ap (option_map tree_found) is) ∙ lone_found x f e)) ∙ clean)
@@ -128,10 +141,14 @@ lone_node x f n e clean same =
 abbrev pub whole : List ℕ → Seat
 whole b = record { at = 0; kind = 5; bytes = b }
 
-pub container_root : (b : List ℕ) → IsBytes b → (r : Result JsonbNode JsonbError) → Reads (read b) r → IfOk r (λ n. node_seat n ≡ whole b) → IfOk r (λ n. IsRoot b (node_seat n))
+-- a container is the root of its slice
+pub container_root : (b : List ℕ) → IsBytes b → (r : Result JsonbNode JsonbError) → Reads (read b) r → IfOk r (λ n. node_seat n ≡ whole b)
+    → IfOk r (λ n. IsRoot b (node_seat n))
 container_root b fits (Ok n) h e = subst (IsRoot b) (sym e) (container_is_root b (node_tree n) fits h.0)
 container_root b fits (Err x) h e = tt
 
-pub scalar_root : (b : List ℕ) (x : Item) → IsBytes b → Some x ≡ lone_item b → (r : Result JsonbNode JsonbError) → IfOk r (λ n. node_seat n ≡ item_seat 0 1 [] x) → IfOk r (λ n. IsRoot b (node_seat n))
+-- a root scalar lies where its item does
+pub scalar_root : (b : List ℕ) (x : Item) → IsBytes b → Some x ≡ lone_item b → (r : Result JsonbNode JsonbError)
+    → IfOk r (λ n. node_seat n ≡ item_seat 0 1 [] x) → IfOk r (λ n. IsRoot b (node_seat n))
 scalar_root b x fits e (Ok n) h = subst (IsRoot b) (sym h) (lone_is_root b x fits (sym e))
 scalar_root b x fits e (Err y) h = tt

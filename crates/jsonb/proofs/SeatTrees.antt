@@ -7,27 +7,28 @@ use Rattle.json_model.specs.Tree.{Tree}
 use Rattle.json_traits.specs.Gives.{Gives}
 use Rattle.json_traits.proofs.GivesLaws.{gives_through}
 use Rattle.jsonb_layout.specs.Layout.{Item}
-use Rattle.jsonb_layout.specs.Reading.{◌>>=◌, Place, item_at}
-use Rattle.jsonb_layout.specs.SeatReading.{seat_at, seats_at}
+use Rattle.jsonb_layout.specs.Options.{◌>>=◌}
+use Rattle.jsonb_layout.specs.inner.Reading.{Place, item_at}
+use Rattle.jsonb_layout.specs.inner.SeatReading.{seat_at, seats_at}
 use Rattle.jsonb_layout.specs.Seats.{Seat}
-use Rattle.jsonb_layout.specs.Trees.{elements_by, item_tree}
+use Rattle.jsonb_layout.specs.inner.Trees.{elements_by, item_tree}
 use Rattle.jsonb_layout.proofs.SeatRuns.{seats_step}
-use Rattle.jsonb_layout.proofs.Tools.{bind_some}
+use Rattle.jsonb_layout.proofs.Tools.{bind_some, less_one, some}
 use Rattle.jsonb.specs.Nodes.{node_tree}
 use Rattle.jsonb.specs.Seated.{node_seat, seat_tree, member_seat, member_tree, member_seats, values_of, seats_left, members_left}
-use Rattle.jsonb.specs.Values.{kind_number, kind_of, value_of, IsJsonTree, AreJsonMembers, or_null, array_at, names_at, members_at, pairs_at}
+use Rattle.jsonb.specs.inner.Values.{kind_number, kind_of, value_of, IsJsonTree, AreJsonMembers, or_null, array_at, names_at, members_at, pairs_at}
 use Rattle.jsonb.specs.declared.cursor.Cursor.{Cursor}
 use Rattle.jsonb.specs.declared.kind.Kind.{Kind}
 use Rattle.jsonb.specs.declared.kind.Kind.TheVariants as kinds
 use Rattle.jsonb.specs.declared.members.JsonbMembers.{JsonbMembers}
 use Rattle.jsonb.specs.declared.node.JsonbNode.{JsonbNode}
 use Rattle.jsonb.proofs.CursorLaws.{next_element, element_there}
-use Rattle.jsonb.proofs.MemberLaws.{next_member, member_there, less_one}
+use Rattle.jsonb.proofs.MemberLaws.{next_member, member_there}
 use Rattle.jsonb.proofs.OwnLaws.{seat_has_tree}
+use Rattle.jsonb.specs.inner.Views.{place}
+use Rattle.jsonb.specs.declared.items.Items.{Items}
 
-abbrev some_names : List (List ℕ) × Place → Option (List (List ℕ) × Place)
-some_names r = Some r
-
+-- the kind of a number of a kind is that kind
 pub number_kind : (k : Kind) → kind_of (kind_number k) ≡ Some k
 number_kind kinds.String = refl
 number_kind kinds.Number = refl
@@ -52,17 +53,23 @@ seat_tree_is s p x json = ap or_null (seat_has_tree p.at x json (s - length p.wo
 
 -- ---- elements
 
-pub seats_go_on : (s n : ℕ) (p q : Place) (x : Item) → 0 < n → Some (x, q) ≡ item_at p → seats_at s n p ≡ seat_at s p x ∷ seats_at s (n - 1) q
-seats_go_on s n p q x lt e = ap (λ (k : ℕ). seats_at s k p) (sym (less_one n lt)) ∙ seats_step s (n - 1) p q x (sym e)
+-- the seat of the first item that is left, and those of the others
+pub seats_go_on : (i : Items) {x : Item} {q : Place} → 0 < i.count → Some (x, q) ≡ item_at (place i.start)
+    → seats_at i.payload i.count (place i.start) ≡ seat_at i.payload (place i.start) x ∷ seats_at i.payload (i.count - 1) q
+seats_go_on i {x = x} {q = q} lt e =
+    ap (λ (k : ℕ). seats_at i.payload k (place i.start)) (sym (less_one i.count lt))
+    ∙ seats_step i.payload (i.count - 1) (place i.start) q x (sym e)
 
-pub no_seats_left : (s n : ℕ) (p : Place) → n ≡ 0 → seats_at s n p ≡ []
+-- where no items are left, nothing lies
+pub no_seats_left : (i : Items) → i.count ≡ 0 → seats_at i.payload i.count (place i.start) ≡ []
 unfolding seats_at
-no_seats_left s n p e = ap (λ (k : ℕ). seats_at s k p) e
+no_seats_left i e = ap (λ (k : ℕ). seats_at i.payload k (place i.start)) e
 
 no_elements_seats : (s : ℕ) (p : Place) → map seat_tree (seats_at s zero p) ≡ elements_of (or_null (array_at zero p))
 unfolding seats_at elements_by
 no_elements_seats s p = refl
 
+-- what lies where the elements do are their trees
 pub element_seats : (s n : ℕ) (p : Place) → IsJsonTree (array_at n p) → map seat_tree (seats_at s n p) ≡ elements_of (or_null (array_at n p))
 element_seats s zero p json = no_elements_seats s p
 element_seats s (suc n) p json =
@@ -75,27 +82,36 @@ element_seats s (suc n) p json =
 
 -- ---- members
 
-pub members_step : (s n : ℕ) (p p' q q' : Place) (x y : Item) → item_at p ≡ Some (x, p') → item_at q ≡ Some (y, q') → member_seats s (suc n) p q ≡ (x.piece, seat_at s q y) ∷ member_seats s n p' q'
+-- the first of so many members, and the others
+pub members_step : (s n : ℕ) (p q : Place) {p' q' : Place} {x y : Item} → item_at p ≡ Some (x, p') → item_at q ≡ Some (y, q')
+    → member_seats s (suc n) p q ≡ (x.piece, seat_at s q y) ∷ member_seats s n p' q'
 unfolding member_seats
-members_step s n p p' q q' x y e f = rw (e, f) refl
+members_step s n p q e f = rw (e, f) refl
 
-pub members_go_on : (s n : ℕ) (p p' q q' : Place) (x y : Item) → 0 < n → Some (x, p') ≡ item_at p → Some (y, q') ≡ item_at q → member_seats s n p q ≡ (x.piece, seat_at s q y) ∷ member_seats s (n - 1) p' q'
-members_go_on s n p p' q q' x y lt e f = ap (λ (k : ℕ). member_seats s k p q) (sym (less_one n lt)) ∙ members_step s (n - 1) p p' q q' x y (sym e) (sym f)
+-- the first member that is left, and the others
+pub members_go_on : (m : JsonbMembers) {x y : Item} {p q : Place} → 0 < m.values.count → Some (x, p) ≡ item_at (place m.keys)
+    → Some (y, q) ≡ item_at (place m.values.start)
+    → members_left m ≡ (x.piece, seat_at m.values.payload (place m.values.start) y) ∷ member_seats m.values.payload (m.values.count - 1) p q
+members_go_on m {x = x} {y = y} {p = p} {q = q} lt e f =
+    ap (λ (k : ℕ). member_seats m.values.payload k (place m.keys) (place m.values.start)) (sym (less_one m.values.count lt))
+    ∙ members_step m.values.payload (m.values.count - 1) (place m.keys) (place m.values.start) (sym e) (sym f)
 
-pub no_member_seats : (s n : ℕ) (p q : Place) → n ≡ 0 → member_seats s n p q ≡ []
+-- where no members are left, nothing lies
+pub no_members_left : (m : JsonbMembers) → m.values.count ≡ 0 → members_left m ≡ []
 unfolding member_seats
-no_member_seats s n p q e = ap (λ (k : ℕ). member_seats s k p q) e
+no_members_left m e = ap (λ (k : ℕ). member_seats m.values.payload k (place m.keys) (place m.values.start)) e
 
 no_member_trees : (s : ℕ) (p q : Place) → map member_tree (member_seats s zero p q) ≡ pairs_at zero p q
 unfolding member_seats names_at elements_by
 no_member_trees s p q = refl
 
+-- what lies where the members do are their trees
 pub member_trees : (s n : ℕ) (p q : Place) → AreJsonMembers (members_at n p q) → map member_tree (member_seats s n p q) ≡ pairs_at n p q
 member_trees s zero p q json = no_member_trees s p q
 member_trees s (suc n) p q json =
     let x = member_there n p q json in
     let next = next_member n p x.0.1 q x.2.0.1 x.0.0 x.2.0.0 x.1 x.2.1 json in
-    ap (map member_tree) (members_step s n p x.0.1 q x.2.0.1 x.0.0 x.2.0.0 x.1 x.2.1)
+    ap (map member_tree) (members_step s n p q x.1 x.2.1)
     ∙ ap (λ (t : Tree). (x.0.0.piece, t) ∷ map member_tree (member_seats s n x.0.1 x.2.0.1)) (seat_tree_is s q x.2.0.0 next.value)
     ∙ ap (λ (ts : List (List ℕ × Tree)). (x.0.0.piece, or_null (item_tree q.at x.2.0.0)) ∷ ts) (member_trees s n x.0.1 x.2.0.1 next.more)
     ∙ sym next.pairs
@@ -106,10 +122,11 @@ unfolding member_seats seats_at names_at
 member_values s zero p q r e = refl
 member_values s (suc n) p q r e =
     let x = bind_some (item_at p) (λ x. names_at n x.1 >>= λ ks. Some (x.0.piece ∷ ks.0, ks.1)) r e in
-    let ks = bind_some (names_at n x.0.1) (λ ks. some_names (x.0.0.piece ∷ ks.0, ks.1)) r x.2 in
+    let ks = bind_some (names_at n x.0.1) (λ ks. some (x.0.0.piece ∷ ks.0, ks.1)) r x.2 in
     go x.0 x.1 (item_at q) refl (λ y. member_values s n x.0.1 y ks.0 ks.1)
   where
-    go : (x : Item × Place) → item_at p ≡ Some x → (y : Option (Item × Place)) → item_at q ≡ y → ((q' : Place) → values_of (member_seats s n x.1 q') ≡ seats_at s n q')
+    go : (x : Item × Place) → item_at p ≡ Some x → (y : Option (Item × Place)) → item_at q ≡ y
+        → ((q' : Place) → values_of (member_seats s n x.1 q') ≡ seats_at s n q')
         → values_of (member_seats s (suc n) p q) ≡ seats_at s (suc n) q
     go x e None f more = rw (e, f) refl
     go x e (Some y) f more = rw (e, f) (ap (λ (cs : List Seat). seat_at s q y.0 ∷ cs) (more y.1))
@@ -118,7 +135,13 @@ member_values s (suc n) p q r e =
 
 -- the nodes of the elements that are left have the trees of their seats
 pub elements_given : (c : Cursor) (ts : List Tree) → map seat_tree (seats_left c) ≡ ts → Gives (YieldsFirstBy node_seat seats_left) node_tree c ts
-elements_given c ts e = subst (λ (us : List Tree). Gives (YieldsFirstBy node_seat seats_left) node_tree c us) e (gives_through node_seat seats_left seat_tree node_tree node_is_seat c)
+elements_given c ts e =
+    subst (λ (us : List Tree). Gives (YieldsFirstBy node_seat seats_left) node_tree c us) e
+    (gives_through node_seat seats_left seat_tree node_tree node_is_seat c)
 
-pub members_given : (m : JsonbMembers) (ps : List (List ℕ × Tree)) → map member_tree (members_left m) ≡ ps → Gives (YieldsFirstBy member_seat members_left) pair_tree m ps
-members_given m ps e = subst (λ (qs : List (List ℕ × Tree)). Gives (YieldsFirstBy member_seat members_left) pair_tree m qs) e (gives_through member_seat members_left member_tree pair_tree pair_is_seat m)
+-- the members that are left have the trees of where they lie
+pub members_given : (m : JsonbMembers) (ps : List (List ℕ × Tree)) → map member_tree (members_left m) ≡ ps
+    → Gives (YieldsFirstBy member_seat members_left) pair_tree m ps
+members_given m ps e =
+    subst (λ (qs : List (List ℕ × Tree)). Gives (YieldsFirstBy member_seat members_left) pair_tree m qs) e
+    (gives_through member_seat members_left member_tree pair_tree pair_is_seat m)

@@ -9,9 +9,11 @@ nothing : (c : List ℕ) → length c ≡ 0 → c ≡ []
 nothing [] e = refl
 nothing (x ∷ c) e = absurd (omega (arith, e))
 
+-- behind bytes that stand for a tree there are none
 pub none_behind : (b c : List ℕ) (t u : Tree) → Stands b t → Stands (b ++ c) u → c ≡ []
 none_behind b c t u h k = nothing c (no_more b c t u h k)
 
+-- of bytes that stand for a tree none can be cut
 pub none_cut : (b : List ℕ) (n : ℕ) (t u : Tree) → Stands b t → Stands (take n b) u → length b ≤ n
 none_cut b n t u h k =
     let whole : take n b ++ drop n b ≡ b = take-append-drop n b in

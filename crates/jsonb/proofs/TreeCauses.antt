@@ -7,7 +7,7 @@ use Rattle.json_model.specs.Json.{ScalarIsText, ScalarIsNarrow, IsText, AreText,
 use Rattle.json_model.specs.Tree.{Scalar, null, boolean, number, string, Tree, scalar, array, object, Elements, no_elements, element, Members, no_members, member}
 use Rattle.jsonb_layout.proofs.Narrow.{narrow_takes, narrow_again}
 use Rattle.jsonb.specs.Found.{scalar_found, tree_found, elements_found, members_found}
-use Rattle.jsonb.specs.Values.{is_clean}
+use Rattle.jsonb.specs.inner.Values.{is_clean}
 use Rattle.jsonb.specs.declared.found.Found.{Found}
 
 neither : (a b : Bool) → (a || b) ≡ false → (a ≡ false) × (b ≡ false)
@@ -43,6 +43,7 @@ is_narrow_scalar (number d) h = ap not (narrow_again d h)
 is_narrow_scalar (string s) h = refl
 
 mutual
+  -- a tree in which no bad text is found is text
   pub text_of : (t : Tree) → (tree_found t).not_text ≡ false → IsText t
   text_of (scalar s) e = text_is s e
   text_of (array ts) e = texts_of ts e
@@ -60,6 +61,7 @@ mutual
       (IsUtf8-from_is_utf8 k (not_false (is_utf8 k) m.0), text_of t m.1, member_texts_of ms n.1)
 
 mutual
+  -- and back
   pub of_text : (t : Tree) → IsText t → (tree_found t).not_text ≡ false
   of_text (scalar s) h = is_text s h
   of_text (array ts) h = of_texts ts h
@@ -91,6 +93,7 @@ mutual
   member_narrows_of (member k t ms) e = let n = neither (tree_found t).wide (members_found ms).wide e in (narrow_of t n.0, member_narrows_of ms n.1)
 
 mutual
+  -- in a narrow tree no wide number is found
   pub of_narrow : (t : Tree) → HasNarrow t → (tree_found t).wide ≡ false
   of_narrow (scalar s) h = is_narrow_scalar s h
   of_narrow (array ts) h = of_narrows ts h
@@ -114,8 +117,10 @@ clean_parts f e = go f.not_text f.wide e
     go false true e = absurd cc
     go false false e = (refl, refl)
 
+-- a tree in which nothing is found is JSON
 pub json_of : (t : Tree) → is_clean (tree_found t) ≡ true → IsJson t
 json_of t e = let p = clean_parts (tree_found t) e in (text_of t p.0, narrow_of t p.1)
 
+-- nothing is both
 pub differ : (b : Bool) → b ≡ true → b ≡ false → ⊥
 differ b e h = absurd cc

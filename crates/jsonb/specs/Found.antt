@@ -3,8 +3,9 @@
 use Rattle.std.specs.Prelude.{ℕ, List, [], ◌∷◌, Option, Some, false, ◌||◌, not}
 use Rattle.std.specs.Str.{is_utf8}
 use Rattle.json_model.specs.Tree.{Scalar, null, boolean, number, string, Tree, scalar, array, object, Elements, no_elements, element, Members, no_members, member}
-use Rattle.jsonb_layout.specs.Narrow.{is_narrow}
-use Rattle.jsonb_layout.specs.Reading.{Place, ◌>>=◌}
+use Rattle.jsonb_layout.specs.inner.Narrow.{is_narrow}
+use Rattle.jsonb_layout.specs.Options.{◌>>=◌}
+use Rattle.jsonb_layout.specs.inner.Reading.{Place}
 use Rattle.jsonb.specs.declared.found.Found.{Found}
 
 abbrev pub nothing : Found

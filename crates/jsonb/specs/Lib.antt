@@ -1,13 +1,9 @@
 pub mod Found
-pub mod Views
-pub mod NumberViews
-pub mod Frames
-pub mod Values
 pub mod Lookup
 pub mod Nodes
 pub mod Root
-pub mod Reads
 pub mod HexText
 pub mod Nested
 pub mod Buffers
 pub mod Seated
+pub mod inner

@@ -25,20 +25,26 @@ impl JsonbBuffer {
         JsonbBuffer { text }
     }
 
-    /// Puts a text in the place of the one that the buffer holds. It takes memory for a copy: where that could not be had, the
-    /// buffer is as before.
+    /// Puts a text in the place of the one that the buffer holds. It takes memory only where the text is longer than what the
+    /// buffer has room for: where that could not be had, the buffer is as before.
     pub(crate) fn put(&mut self, alloc: Global, text: &str) -> Result<(), OutOfMemory>
         ensures put { IfOk result (λ _. buffer_bytes self.new ≡ text.now) }
         ensures kept { OnErr result (self.new ≡ self.old) }
     {
-        self.text = String::from_str(alloc, text)?;
+        if self.text.capacity() < text.len() {
+            self.text = String::from_str(alloc, text)?;
+            return Ok(());
+        }
+        self.text.clear();
+        self.text.push_str(text)?;
         Ok(())
     }
 
     /// The node of the string. It borrows the buffer, and nothing is validated again.
     pub(crate) fn node(&self) -> JsonbNode<'_>
         ensures tree { node_tree result ≡ scalar (string (buffer_bytes self.now)) }
-        ensures seat { node_seat result ≡ record { at = 0; kind = 0; bytes = buffer_bytes self.now } }
+        ensures seat { node_seat result
+            ≡ record { at = 0; kind = 0; bytes = buffer_bytes self.now } }
     {
         string_node(self.text.as_str())
     }
@@ -50,7 +56,7 @@ pub fn string_node(text: &str) -> JsonbNode<'_>
     ensures seat { node_seat result ≡ record { at = 0; kind = 0; bytes = text.now } }
 {
     JsonbNode {
-        at: 0,
+        offset: 0,
         kind: Kind::String,
         bytes: text.as_bytes(),
     }

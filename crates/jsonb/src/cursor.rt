@@ -1,24 +1,17 @@
 //! The elements of an array.
 
-ghost use Rattle.std.specs.Prelude.{◌+◌, ◌<◌, ◌≤◌, ◌^◌, length};
-ghost use Rattle.jsonb.specs.Values.{array_at, IsJsonTree};
-ghost use Rattle.jsonb.specs.Views.{place};
+ghost use Rattle.jsonb.specs.inner.Values.{array_at, IsJsonTree};
+ghost use Rattle.jsonb.specs.inner.Views.{place};
 
+use crate::items::Items;
 use crate::node::JsonbNode;
-use crate::own::node_at;
-use crate::position::{Position, next_item};
+use crate::walk::next_item;
 
-/// The elements that are left of an array, in order: so many, from a place on. Each entry is walked once.
+/// The elements that are left of an array, in order. Each entry is walked once.
 #[derive(Drop)]
 pub struct Cursor<'a> {
-    pub(crate) left: usize,
-    pub(crate) payload: usize,
-    pub(crate) position: Position<'a>,
-    ghost stands: { IsJsonTree (array_at left (place position)) },
-    ghost index: { position.index + left < 2 ^ 60 },
-    ghost at: { position.at + length position.rest.now < 2 ^ 28 },
-    ghost words: { length position.words.now ≤ payload },
-    ghost room: { payload + (position.at + length position.rest.now) < 2 ^ 64 },
+    pub(crate) left: Items<'a>,
+    ghost stands: { IsJsonTree (array_at left.count (place left.start)) },
 }
 
 impl<'a> Iterator for Cursor<'a> {
@@ -32,17 +25,20 @@ impl<'a> Iterator for Cursor<'a> {
     ghost remaining = { item_count seats_left };
 
     fn next(&mut self) -> Option<JsonbNode<'a>> {
-        if self.left == 0 {
+        let left = self.left;
+        if left.count == 0 {
             return None;
         }
-        let Some((entry, position)) = next_item(self.position) else {
+        let Some((item, start)) = next_item(left.start) else {
             unreachable!()
         };
-        let node = node_at(self.payload, self.position, entry);
+        let node = left.node(item);
         *self = Cursor {
-            left: self.left - 1,
-            payload: self.payload,
-            position,
+            left: Items {
+                count: left.count - 1,
+                payload: left.payload,
+                start,
+            },
         };
         Some(node)
     }

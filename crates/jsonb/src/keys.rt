@@ -1,14 +1,16 @@
 //! The keys of an object.
 
-ghost use Rattle.std.specs.Prelude.{◌≡◌, ◌==◌, ◌+◌, ◌^◌, length, option_map, IfSome, None, ◌<◌, ◌&&◌};
+ghost use Rattle.std.specs.Prelude.{◌≡◌, ◌==◌, ◌&&◌, None, option_map};
 ghost use Rattle.json_model.specs.Keys.{bytes_before};
-ghost use Rattle.jsonb_layout.specs.Reading.{follows, keys_at};
+ghost use Rattle.jsonb_layout.specs.inner.Reading.{follows, keys_at};
 ghost use Rattle.jsonb.specs.Found.{nothing, keys_after};
-ghost use Rattle.jsonb.specs.Views.{place, found_step};
+ghost use Rattle.jsonb.specs.inner.Views.{place, found_then_place};
 
 use crate::found::Found;
-use crate::position::{Entry, Position, next_item};
+use crate::item::Item;
+use crate::place::Place;
 use crate::scalar::is_text;
+use crate::walk::next_item;
 
 fn comes_before(a: &[u8], b: &[u8]) -> bool
     ensures { result ≡ bytes_before a.now b.now }
@@ -16,43 +18,47 @@ fn comes_before(a: &[u8], b: &[u8]) -> bool
     a < b
 }
 
-/// Whether an item is a key that comes after the one before it, if there is one.
-fn is_key(before: Option<&[u8]>, entry: Entry<'_>) -> bool
-    ensures { result ≡ (entry.entry.kind == 0 && follows (option_map (λ x. x.now) before.entry) entry.entry.piece.now) }
+/// Whether a key comes after the one before it, if there is one.
+fn rises(before: Option<&[u8]>, key: &[u8]) -> bool
+    ensures { result ≡ follows (option_map (λ x. x.now) before.entry) key.now }
 {
-    if entry.kind != 0 {
-        return false;
-    }
     match before {
         None => true,
-        Some(before) => before.len() < entry.piece.len()
-            || (before.len() == entry.piece.len() && comes_before(before, entry.piece)),
+        Some(before) => {
+            before.len() < key.len() || (before.len() == key.len() && comes_before(before, key))
+        }
     }
 }
 
-/// What is found in so many keys, and where they end, or none where one of them is no key or does not rise.
-pub fn keys(count: usize, start: Position<'_>) -> Option<(Found, Position<'_>)>
-    requires index { start.index + count < 2 ^ 60 }
-    requires at { start.at + length start.rest.now < 2 ^ 28 }
-    ensures read { option_map found_step result ≡ keys_after nothing (keys_at count None (place start.entry)) }
-    ensures index { IfSome result (λ r. r.1.index ≡ start.entry.index + count) }
-    ensures at { IfSome result (λ r. r.1.at + length r.1.rest.now ≡ start.entry.at + length start.entry.rest.now) }
+/// Whether an item is a key that comes after the one before it, if there is one.
+fn is_key(before: Option<&[u8]>, item: &Item<'_>) -> bool
+    ensures { result ≡ (item.now.kind == 0
+        && follows (option_map (λ x. x.now) before.entry) item.now.piece) }
 {
-    let mut position = start;
+    item.is_string() && rises(before, item.piece())
+}
+
+/// What is found in so many keys, and where they end. None where one of them is no key or does not rise.
+pub fn key_faults(count: usize, start: Place<'_>) -> Option<(Found, Place<'_>)>
+    ensures { option_map found_then_place result
+        ≡ keys_after nothing (keys_at count None (place start.entry)) }
+{
+    let mut current = start;
     let mut found = Found::NOTHING;
     let mut before: Option<&[u8]> = None;
     for _ in 0..count {
-        let (entry, after) = next_item(position)?;
-        if !is_key(before, entry) {
+        let (item, behind) = next_item(current)?;
+        if !is_key(before, &item) {
             return None;
         }
-        let text = is_text(entry.piece);
+        let piece = item.piece();
+        let text = is_text(piece);
         found = found.with(Found {
             not_text: !text,
             wide: false,
         });
-        before = Some(entry.piece);
-        position = after;
+        before = Some(piece);
+        current = behind;
     }
-    Some((found, position))
+    Some((found, current))
 }

@@ -1,7 +1,7 @@
 //! The kinds of values.
 
 ghost use Rattle.std.specs.Prelude.{◌≡◌};
-ghost use Rattle.jsonb.specs.Values.{kind_number, kind_of};
+ghost use Rattle.jsonb.specs.inner.Values.{kind_number, kind_of};
 
 /// What an entry word says that its piece is.
 #[derive(Clone, Copy, Debug, PartialEq, Eq)]

@@ -29,7 +29,8 @@ pub fn no_more(bytes: &[u8], more: &[u8])
 
 /// Bytes that stand for a tree stand for none when they are cut short.
 pub fn no_less(bytes: &[u8], cut: usize)
-    ensures { (t u : Tree) → Stands bytes.now t → Stands (take cut bytes.now) u → length bytes.now ≤ cut }
+    ensures { (t u : Tree) → Stands bytes.now t → Stands (take cut bytes.now) u
+        → length bytes.now ≤ cut }
 {
     let _length = bytes.len();
     let _cut = cut;
@@ -46,27 +47,37 @@ pub fn keys_rise(bytes: &[u8])
 /// for the tree at the place. Its own bytes are in the bytes where it is; where it has none, a word with its kind is there. A
 /// value in a value is one step deeper.
 pub fn each_place_has_a_seat(bytes: &[u8])
-    ensures some { (t u : Tree) (way : List ℕ) → Stands bytes.now t → tree_at way t ≡ Some u → (s : Seat) × IsSeat bytes.now way s × SeatStands s u }
-    ensures only { (t : Tree) (way : List ℕ) (s : Seat) → Stands bytes.now t → IsSeat bytes.now way s → (u : Tree) × (tree_at way t ≡ Some u) × SeatStands s u }
-    ensures deeper { (way : List ℕ) (s c : Seat) (i : ℕ) → IsSeat bytes.now way s → Holds s i c → IsSeat bytes.now (way ++ i ∷ []) c }
-    ensures there { (way : List ℕ) (s : Seat) → IsSeat bytes.now way s → take (length s.bytes) (drop s.at bytes.now) ≡ s.bytes }
-    ensures word { (way : List ℕ) (s : Seat) → IsSeat bytes.now way s → s.bytes ≡ [] → (s.at + 4 ≤ length bytes.now) × (from_le_bytes w32 (take 4 (drop s.at bytes.now)) / 2 ^ 28 % 8 ≡ s.kind) }
+    ensures some { (t u : Tree) (way : List ℕ) → Stands bytes.now t → tree_at way t ≡ Some u
+        → (s : Seat) × IsSeat bytes.now way s × SeatStands s u }
+    ensures only { (t : Tree) (way : List ℕ) (s : Seat) → Stands bytes.now t
+        → IsSeat bytes.now way s → (u : Tree) × (tree_at way t ≡ Some u) × SeatStands s u }
+    ensures deeper { (way : List ℕ) (s c : Seat) (i : ℕ) → IsSeat bytes.now way s → Holds s i c
+        → IsSeat bytes.now (way ++ i ∷ []) c }
+    ensures there { (way : List ℕ) (s : Seat) → IsSeat bytes.now way s
+        → take (length s.bytes) (drop s.at bytes.now) ≡ s.bytes }
+    ensures word { (way : List ℕ) (s : Seat) → IsSeat bytes.now way s → s.bytes ≡ []
+        → (s.at + 4 ≤ length bytes.now)
+        × (from_le_bytes w32 (take 4 (drop s.at bytes.now)) / 2 ^ 28 % 8 ≡ s.kind) }
 {
     let _length = bytes.len();
 }
 
 /// A place has one seat. Two different places have different pairs of numbers: they are at different bytes.
 pub fn places_differ(bytes: &[u8])
-    ensures one { (way : List ℕ) (s r : Seat) → IsSeat bytes.now way s → IsSeat bytes.now way r → s ≡ r }
-    ensures bytes { (v w : List ℕ) (s r : Seat) → IsSeat bytes.now v s → IsSeat bytes.now w r → s.at ≡ r.at → v ≡ w }
-    ensures apart { (v w : List ℕ) (s r : Seat) → IsSeat bytes.now v s → IsSeat bytes.now w r → pair_of s ≡ pair_of r → v ≡ w }
+    ensures one { (way : List ℕ) (s r : Seat) → IsSeat bytes.now way s
+        → IsSeat bytes.now way r → s ≡ r }
+    ensures bytes { (v w : List ℕ) (s r : Seat) → IsSeat bytes.now v s → IsSeat bytes.now w r
+        → s.at ≡ r.at → v ≡ w }
+    ensures apart { (v w : List ℕ) (s r : Seat) → IsSeat bytes.now v s → IsSeat bytes.now w r
+        → pair_of s ≡ pair_of r → v ≡ w }
 {
     let _length = bytes.len();
 }
 
 /// A node that lies where a place of the root's tree does stands for the tree at the place.
 pub fn a_node_has_the_tree_of_its_place(root: &[u8], node: &JsonbNode<'_>)
-    ensures { (t : Tree) (way : List ℕ) → Stands root.now t → IsSeat root.now way (node_seat node.now) → tree_at way t ≡ Some (node_tree node.now) }
+    ensures { (t : Tree) (way : List ℕ) → Stands root.now t
+        → IsSeat root.now way (node_seat node.now) → tree_at way t ≡ Some (node_tree node.now) }
 {
     let _length = root.len();
     let _identity = node.identity();
@@ -75,8 +86,11 @@ pub fn a_node_has_the_tree_of_its_place(root: &[u8], node: &JsonbNode<'_>)
 /// Whether two nodes of one root are the same place of its tree, which is told by their identities: these are the same
 /// exactly where the places are.
 pub fn are_one_place(root: &[u8], left: &JsonbNode<'_>, right: &JsonbNode<'_>) -> bool
-    ensures told { (v w : List ℕ) → IsSeat root.now v (node_seat left.now) → IsSeat root.now w (node_seat right.now) → (IsTrue result ↔ (v ≡ w)) }
-    ensures identities { (v w : List ℕ) → IsSeat root.now v (node_seat left.now) → IsSeat root.now w (node_seat right.now) → ((node_identity left.now ≡ node_identity right.now) ↔ (v ≡ w)) }
+    ensures told { (v w : List ℕ) → IsSeat root.now v (node_seat left.now)
+        → IsSeat root.now w (node_seat right.now) → (IsTrue result ↔ (v ≡ w)) }
+    ensures identities { (v w : List ℕ) → IsSeat root.now v (node_seat left.now)
+        → IsSeat root.now w (node_seat right.now)
+        → ((node_identity left.now ≡ node_identity right.now) ↔ (v ≡ w)) }
 {
     let _length = root.len();
     match (left.identity(), right.identity()) {

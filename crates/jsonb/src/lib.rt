@@ -23,7 +23,7 @@
 //! may nest as deep as a slice is long: the reader takes memory for the nesting alone, and no stack.
 //!
 //! [`Jsonb`] is a representation of JSON too, by the trait `Json`: a [`JsonbBuffer`] holds the string of a node that is made from a
-//! text, and `prepare_key` and `string_node` take memory for a copy.
+//! text. `prepare_key` takes memory for a copy, and `string_node` only where the text is longer than any that the buffer held.
 //!
 //! A node's identity is where it lies, with its kind and length: two nodes of one root have the same one exactly where they are
 //! the same place of its tree, however equal their values are.
@@ -38,6 +38,8 @@ pub mod encode;
 mod error;
 mod found;
 mod frame;
+mod item;
+mod items;
 mod key;
 mod keys;
 mod kind;
@@ -45,17 +47,17 @@ pub mod laws;
 mod lookup;
 mod members;
 mod node;
+mod nodes;
 mod number;
 mod numeric;
 mod object;
 mod opening;
-mod own;
-mod pass;
-mod position;
+mod place;
 mod root;
 mod scalar;
 mod search;
 mod steps;
+mod walk;
 
 pub use array::JsonbArray;
 pub use buffer::JsonbBuffer;

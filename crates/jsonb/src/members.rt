@@ -1,28 +1,20 @@
 //! The members of an object.
 
-ghost use Rattle.std.specs.Prelude.{◌+◌, ◌<◌, ◌≤◌, ◌^◌, length};
-ghost use Rattle.jsonb.specs.Values.{members_at, AreJsonMembers};
-ghost use Rattle.jsonb.specs.Views.{place};
+ghost use Rattle.jsonb.specs.inner.Values.{members_at, AreJsonMembers};
+ghost use Rattle.jsonb.specs.inner.Views.{place};
 
+use crate::items::Items;
 use crate::node::JsonbNode;
-use crate::own::node_at;
-use crate::position::{Position, next_item};
+use crate::place::Place;
 use crate::scalar::text_of;
+use crate::walk::next_item;
 
-/// The members that are left of an object, in key order: so many, with keys and values from two places on.
+/// The members that are left of an object, in key order: where their keys begin, and their values.
 #[derive(Drop)]
 pub struct JsonbMembers<'a> {
-    pub(crate) left: usize,
-    pub(crate) payload: usize,
-    pub(crate) keys: Position<'a>,
-    pub(crate) values: Position<'a>,
-    ghost stands: { AreJsonMembers (members_at left (place keys) (place values)) },
-    ghost key_index: { keys.index + left < 2 ^ 60 },
-    ghost key_at: { keys.at + length keys.rest.now < 2 ^ 28 },
-    ghost value_index: { values.index + left < 2 ^ 60 },
-    ghost value_at: { values.at + length values.rest.now < 2 ^ 28 },
-    ghost words: { length values.words.now ≤ payload },
-    ghost room: { payload + (values.at + length values.rest.now) < 2 ^ 64 },
+    pub(crate) keys: Place<'a>,
+    pub(crate) values: Items<'a>,
+    ghost stands: { AreJsonMembers (members_at values.count (place keys) (place values.start)) },
 }
 
 impl<'a> Iterator for JsonbMembers<'a> {
@@ -36,22 +28,25 @@ impl<'a> Iterator for JsonbMembers<'a> {
     ghost remaining = { item_count members_left };
 
     fn next(&mut self) -> Option<(&'a str, JsonbNode<'a>)> {
-        if self.left == 0 {
+        let left = self.values;
+        if left.count == 0 {
             return None;
         }
         let Some((key, keys)) = next_item(self.keys) else {
             unreachable!()
         };
-        let Some((entry, values)) = next_item(self.values) else {
+        let Some((item, start)) = next_item(left.start) else {
             unreachable!()
         };
-        let name = text_of(key.piece);
-        let node = node_at(self.payload, self.values, entry);
+        let name = text_of(key.piece());
+        let node = left.node(item);
         *self = JsonbMembers {
-            left: self.left - 1,
-            payload: self.payload,
             keys,
-            values,
+            values: Items {
+                count: left.count - 1,
+                payload: left.payload,
+                start,
+            },
         };
         Some((name, node))
     }

@@ -1,12 +1,13 @@
 //! A value in a slice.
 
 ghost use Rattle.std.specs.Prelude.{◌≡◌, ◌+◌, ◌*◌, ◌%◌, ◌<◌, ◌^◌, length, IsTrue};
-ghost use Rattle.jsonb.specs.Values.{kind_number, value_of, IsJsonTree, is_short};
+ghost use Rattle.jsonb.specs.inner.Values.{kind_number, value_of, IsJsonTree, is_short};
 
 use crate::array::JsonbArray;
 use crate::kind::Kind;
 use crate::number::JsonbNumber;
 use crate::object::JsonbObject;
+use crate::opening::is_object;
 use crate::scalar::text_of;
 use bytecount::num_chars;
 use json_traits::types::JsonType;
@@ -17,12 +18,12 @@ use json_traits::{HasTree, Node, NodeIdentity};
 /// empty string, is where its entry word is.
 #[derive(Clone, Copy)]
 pub struct JsonbNode<'a> {
-    pub(crate) at: usize,
+    pub(crate) offset: usize,
     pub(crate) kind: Kind,
     pub(crate) bytes: &'a [u8],
     ghost stands: { IsJsonTree (value_of kind bytes.now) },
     ghost short: { IsTrue (is_short kind bytes.now) },
-    ghost room: { at + length bytes.now < 2 ^ 64 },
+    ghost room: { offset + length bytes.now < 2 ^ 64 },
 }
 
 impl HasTree for JsonbNode<'_> {
@@ -57,11 +58,13 @@ impl<'a> Node<'a> for JsonbNode<'a> {
     #[tactic(auto, using(crate::proofs::KindLaws::no_object, crate::proofs::KindLaws::container_stands))]
     fn as_object(&self) -> Option<JsonbObject<'a>>
         ensures tree { option_map object_tree result ≡ if_object (node_tree self.now) }
-        ensures held { IfSome result (λ o. AreHeld (node_seat self.now) (values_of (object_seats o))) }
-        ensures pairs { IfSome result (λ o. map member_tree (object_seats o) ≡ pairs_of (object_tree o)) }
+        ensures held { IfSome result
+            (λ o. AreHeld (node_seat self.now) (values_of (object_seats o))) }
+        ensures pairs { IfSome result
+            (λ o. map member_tree (object_seats o) ≡ pairs_of (object_tree o)) }
     {
         match self.kind {
-            Kind::Container => JsonbObject::of(self.at, self.bytes),
+            Kind::Container => JsonbObject::of(self.offset, self.bytes),
             _ => None,
         }
     }
@@ -70,10 +73,11 @@ impl<'a> Node<'a> for JsonbNode<'a> {
     fn as_array(&self) -> Option<JsonbArray<'a>>
         ensures tree { option_map array_tree result ≡ if_array (node_tree self.now) }
         ensures held { IfSome result (λ a. AreHeld (node_seat self.now) (array_seats a)) }
-        ensures trees { IfSome result (λ a. map seat_tree (array_seats a) ≡ elements_of (array_tree a)) }
+        ensures trees { IfSome result
+            (λ a. map seat_tree (array_seats a) ≡ elements_of (array_tree a)) }
     {
         match self.kind {
-            Kind::Container => JsonbArray::of(self.at, self.bytes),
+            Kind::Container => JsonbArray::of(self.offset, self.bytes),
             _ => None,
         }
     }
@@ -134,10 +138,13 @@ impl<'a> Node<'a> for JsonbNode<'a> {
             Kind::Number => JsonType::Number,
             Kind::False | Kind::True => JsonType::Boolean,
             Kind::Null => JsonType::Null,
-            Kind::Container => match JsonbObject::of(self.at, self.bytes) {
-                Some(_) => JsonType::Object,
-                None => JsonType::Array,
-            },
+            Kind::Container => {
+                if is_object(self.bytes) {
+                    JsonType::Object
+                } else {
+                    JsonType::Array
+                }
+            }
         }
     }
 
@@ -154,9 +161,14 @@ impl<'a> Node<'a> for JsonbNode<'a> {
     /// root have the same identity exactly where they are the same place. These numbers are this project's own.
     fn identity(&self) -> Option<NodeIdentity>
         ensures identity { result ≡ some_identity self.now }
-        ensures pair { option_map pair result ≡ Some ((node_seat self.now).at, (node_seat self.now).kind * 2 ^ 28 + length (node_seat self.now).bytes % 2 ^ 28) }
+        ensures pair { option_map pair result
+            ≡ Some (
+              (node_seat self.now).at,
+              (node_seat self.now).kind * 2 ^ 28 + length
+                  (node_seat self.now).bytes % 2 ^ 28,
+            ) }
     {
-        Some(NodeIdentity::tagged(self.at, tag(self.kind, self.bytes.len())))
+        Some(NodeIdentity::tagged(self.offset, tag(self.kind, self.bytes.len())))
     }
 
     #[tactic(auto, using(crate::proofs::KindLaws::no_container, crate::proofs::KindLaws::container_is))]

@@ -1,10 +1,10 @@
 //! A number in a slice.
 
 ghost use Rattle.std.specs.Prelude.{◌≡◌, ◌<◌, ◌^◌, length};
-ghost use Rattle.jsonb.specs.Values.{value_of, IsJsonTree};
+ghost use Rattle.jsonb.specs.inner.Values.{value_of, IsJsonTree};
 ghost use Rattle.jsonb.specs.declared.kind.Kind.TheVariants as kinds;
 
-use crate::numeric::{header, varlena};
+use crate::numeric::{header, varlena, weight_of};
 use json_exact::{Decimal, Number};
 use json_traits::{HasTree, JsonNumber};
 
@@ -33,7 +33,8 @@ impl JsonNumber for JsonbNumber<'_> {
         let Some((header, groups)) = header(body) else {
             unreachable!()
         };
-        let Some(decimal) = Decimal::from_groups(header.minus, header.weight(), groups) else {
+        let Some(decimal) = Decimal::from_groups(header.minus, weight_of(header.lift), groups)
+        else {
             unreachable!()
         };
         Number::new(decimal, header.dscale)

@@ -2,32 +2,21 @@
 
 ghost use Rattle.std.specs.Prelude.{ℕ, ◌+◌, ◌-◌, ◌*◌, ◌%◌, ◌≡◌, ◌<◌, ◌≤◌, ◌^◌, length, not, option_map, IfSome, IsTrue, ◌==◌, ◌&&◌};
 ghost use Rattle.json_exact.specs.Groups.{lifted};
-ghost use Rattle.jsonb_layout.specs.Narrow.{is_narrow};
-ghost use Rattle.jsonb_layout.specs.Reading.{varlena_of, header_of, numeric_of};
-ghost use Rattle.jsonb.specs.NumberViews.{head, groups_fit_of, rest_of};
+ghost use Rattle.jsonb_layout.specs.inner.Narrow.{is_narrow};
+ghost use Rattle.jsonb_layout.specs.inner.Reading.{varlena_of, header_of, numeric_of};
+ghost use Rattle.jsonb.specs.inner.Groups.{groups_fit_of, rest_of};
 
-/// What a numeric header says.
-#[derive(Clone, Copy)]
-pub struct Head {
-    /// Whether the number is below 0.
-    pub minus: bool,
-    /// How many fraction digits are written.
-    pub dscale: u16,
-    /// The weight plus 2^15.
-    pub lift: u16,
-}
+use jsonb_layout::Header;
 
-impl Head {
-    /// The power of 10000 that the first group counts.
-    pub fn weight(self) -> i16
-        ensures { lifted result ≡ self.lift }
-    {
-        (self.lift as i32 - 0x8000) as i16
-    }
+/// The power of 10000 that the first group counts: 2^15 less than the lifted weight.
+pub fn weight_of(lift: u16) -> i16
+    ensures { lifted result ≡ lift }
+{
+    (lift as i32 - 0x8000) as i16
 }
 
 /// The bytes behind the varlena header.
-#[tactic(auto, unfolding(jsonb_layout::specs::Reading::varlena_of))]
+#[tactic(auto, unfolding(jsonb_layout::specs::inner::Reading::varlena_of))]
 pub fn varlena(bytes: &[u8]) -> Option<&[u8]>
     requires { length bytes.now < 2 ^ 28 }
     ensures read { option_map (λ x. x.now) result ≡ varlena_of bytes.now }
@@ -50,9 +39,9 @@ pub fn varlena(bytes: &[u8]) -> Option<&[u8]>
 }
 
 /// The numeric header, and the bytes of the groups behind it.
-#[tactic(auto, unfolding(jsonb_layout::specs::Reading::header_of))]
-pub fn header(bytes: &[u8]) -> Option<(Head, &[u8])>
-    ensures read { option_map (λ r. (head r.0, r.1.now)) result ≡ header_of bytes.now }
+#[tactic(auto, unfolding(jsonb_layout::specs::inner::Reading::header_of))]
+pub fn header(bytes: &[u8]) -> Option<(Header, &[u8])>
+    ensures read { option_map (λ r. (r.0, r.1.now)) result ≡ header_of bytes.now }
     ensures len { IfSome result (λ r. length r.1.now ≤ length bytes.now) }
 {
     if bytes.len() < 2 {
@@ -70,7 +59,7 @@ pub fn header(bytes: &[u8]) -> Option<(Head, &[u8])>
             weight - 0x8000
         };
         Some((
-            Head {
+            Header {
                 minus: word >= 0x4000,
                 dscale: word % 0x4000,
                 lift,
@@ -85,7 +74,7 @@ pub fn header(bytes: &[u8]) -> Option<(Head, &[u8])>
             0x7f80 + seven
         };
         Some((
-            Head {
+            Header {
                 minus: word / 0x2000 % 2 == 1,
                 dscale: word / 128 % 64,
                 lift,
@@ -98,7 +87,7 @@ pub fn header(bytes: &[u8]) -> Option<(Head, &[u8])>
 }
 
 /// Whether the bytes are numbers below 10000, of two bytes each.
-#[tactic(auto, unfolding(jsonb_layout::specs::Reading::groups_of))]
+#[tactic(auto, unfolding(jsonb_layout::specs::inner::Reading::groups_of))]
 fn groups_fit(bytes: &[u8]) -> bool
     ensures { result ≡ groups_fit_of bytes.now }
 {
@@ -152,11 +141,11 @@ fn digits(group: usize) -> usize
 }
 
 /// Whether the number is narrow, or none where there is a digit past its fraction digits.
-fn decide(header: Head, groups: &[u8]) -> Option<bool>
+fn decide(header: Header, groups: &[u8]) -> Option<bool>
     requires len { length groups.now < 2 ^ 28 }
     requires some { 0 < length groups.now }
     requires fit { IsTrue (groups_fit_of groups.now) }
-    ensures { result ≡ rest_of (head header) groups.now }
+    ensures { result ≡ rest_of header groups.now }
 {
     if groups.len() < 2 {
         return None;
@@ -180,7 +169,7 @@ fn decide(header: Head, groups: &[u8]) -> Option<bool>
 }
 
 /// Whether the header is that of 0.
-fn is_zero(header: Head) -> bool
+fn is_zero(header: Header) -> bool
     ensures { result ≡ ((header.lift == 2 ^ 15) && not header.minus) }
 {
     header.lift == 0x8000 && !header.minus

@@ -1,66 +1,53 @@
 //! An object in a slice.
 
-ghost use Rattle.std.specs.Prelude.{◌+◌, ◌*◌, ◌<◌, ◌≤◌, ◌^◌, length};
-ghost use Rattle.jsonb.specs.Values.{object_at, IsJsonTree};
-ghost use Rattle.jsonb.specs.Views.{place};
+ghost use Rattle.jsonb.specs.inner.Values.{object_at, IsJsonTree};
+ghost use Rattle.jsonb.specs.inner.Views.{place};
 
+use crate::items::Items;
 use crate::key::JsonbKey;
 use crate::lookup::get_in;
 use crate::members::JsonbMembers;
 use crate::node::JsonbNode;
-use crate::opening::{Shape, open};
-use crate::pass::pass;
-use crate::position::Position;
+use crate::walk::pass;
 use json_traits::{HasTree, Object};
+use jsonb_layout::Form;
 use std::marker::Brand;
 use std::sync::ledger::Blank;
 
-/// An object in a slice: how many members it has, where their keys begin, and where its payload begins in the root's slice.
-/// It borrows the slice.
+/// An object in a slice: its keys, behind which its values come. It borrows the slice.
 #[derive(Clone, Copy)]
 pub struct JsonbObject<'a> {
-    pub(crate) count: usize,
-    pub(crate) payload: usize,
-    pub(crate) start: Position<'a>,
-    ghost stands: { IsJsonTree (object_at count (place start)) },
-    ghost index: { start.index + 2 * count < 2 ^ 60 },
-    ghost at: { start.at + length start.rest.now < 2 ^ 28 },
-    ghost words: { length start.words.now ≤ payload },
-    ghost room: { payload + (start.at + length start.rest.now) < 2 ^ 64 },
+    pub(crate) keys: Items<'a>,
+    ghost stands: { IsJsonTree (object_at keys.count (place keys.start)) },
 }
 
 impl<'a> JsonbObject<'a> {
-    ghost use Rattle.std.specs.Prelude.{◌≡◌, map, option_map, IfSome};
+    ghost use Rattle.std.specs.Prelude.{◌≡◌, ◌+◌, ◌<◌, ◌^◌, length, map, option_map, IfSome};
     ghost use Rattle.json_model.specs.Parts.{if_object, pairs_of};
     ghost use Rattle.jsonb_layout.specs.Seats.{AreHeld};
-    ghost use Rattle.jsonb_layout.specs.Trees.{read};
+    ghost use Rattle.jsonb_layout.specs.inner.Trees.{read};
     ghost use Rattle.jsonb.specs.Nodes.{object_tree};
     ghost use Rattle.jsonb.specs.Seated.{member_tree, object_seats, values_of};
-    ghost use Rattle.jsonb.specs.Values.{or_null};
+    ghost use Rattle.jsonb.specs.inner.Values.{or_null};
 
-    /// The object that a container is, if it is one. The container begins at `at` in the root's slice.
-    pub(crate) fn of(at: usize, bytes: &'a [u8]) -> Option<JsonbObject<'a>>
+    /// The object that a container is, if it is one. The container begins at `begin` in the root's slice.
+    pub(crate) fn of(begin: usize, bytes: &'a [u8]) -> Option<JsonbObject<'a>>
         requires json { IsJsonTree (read bytes.now) }
-        requires room { at + length bytes.now < 2 ^ 64 }
+        requires room { begin + length bytes.now < 2 ^ 64 }
         ensures tree { option_map object_tree result ≡ if_object (or_null (read bytes.now)) }
-        ensures held { IfSome result (λ o. AreHeld (record { at = at; kind = 5; bytes = bytes.now }) (values_of (object_seats o))) }
-        ensures pairs { IfSome result (λ o. map member_tree (object_seats o) ≡ pairs_of (object_tree o)) }
+        ensures held { IfSome result
+            (λ o. AreHeld (record { at = begin; kind = 5; bytes = bytes.now })
+            (values_of (object_seats o))) }
+        ensures pairs { IfSome result
+            (λ o. map member_tree (object_seats o) ≡ pairs_of (object_tree o)) }
     {
-        let Some(opened) = open(bytes) else {
+        let Some((form, keys)) = Items::of(begin, bytes) else {
             unreachable!()
         };
-        match opened.shape {
-            Shape::Object => {
-                return Some(JsonbObject {
-                    count: opened.count,
-                    payload: at + (bytes.len() - opened.start.rest.len()),
-                    start: opened.start,
-                });
-            }
-            Shape::Array => {
-                return None;
-            }
-            Shape::Scalar => unreachable!(),
+        match form {
+            Form::Object => Some(JsonbObject { keys }),
+            Form::Array => None,
+            Form::Lone => unreachable!(),
         }
     }
 }
@@ -73,7 +60,7 @@ impl HasTree for JsonbObject<'_> {
 
 #[tactic(auto, using(crate::proofs::MemberLaws::object_length))]
 impl<'a> Object<'a> for JsonbObject<'a> {
-    ghost use Rattle.std.specs.Prelude.{◌≡◌, map, option_map, true};
+    ghost use Rattle.std.specs.Prelude.{◌≡◌, ◌<◌, ◌^◌, length, map, option_map, true};
     ghost use Rattle.std.specs.Iterator.{YieldsFirstBy, item_count, IsFinite};
     ghost use Rattle.json_model.specs.Keys.{rises};
     ghost use Rattle.json_model.specs.Parts.{pairs_of};
@@ -90,42 +77,48 @@ impl<'a> Object<'a> for JsonbObject<'a> {
     type Key = JsonbKey;
 
     fn len(&self) -> usize {
-        self.count
+        self.keys.count
     }
 
     #[tactic(auto, using(crate::proofs::MemberLaws::object_length, crate::proofs::MemberLaws::empty_if))]
     fn is_empty(&self) -> bool {
-        self.count == 0
+        self.keys.count == 0
     }
 
     fn members(&self) -> JsonbMembers<'a>
         ensures ends { IsFinite (item_count members_left result) }
-        ensures gives { Gives (YieldsFirstBy member_seat members_left) (λ p. (p.0.now, node_tree p.1)) result (pairs_of (object_tree self.now)) }
+        ensures gives { Gives (YieldsFirstBy member_seat members_left)
+            (λ p. (p.0.now, node_tree p.1)) result (pairs_of (object_tree self.now)) }
         ensures seats { members_left result ≡ object_seats self.now }
         ensures pairs { map member_tree (object_seats self.now) ≡ pairs_of (object_tree self.now) }
         ensures rise { rises (map (λ p. p.0) (pairs_of (object_tree self.now))) ≡ true }
         ensures few { length (pairs_of (object_tree self.now)) < 2 ^ 60 }
     {
-        let Some(values) = pass(self.count, self.start) else {
+        let Some(start) = pass(self.keys.count, self.keys.start) else {
             unreachable!()
         };
         JsonbMembers {
-            left: self.count,
-            payload: self.payload,
-            keys: self.start,
-            values,
+            keys: self.keys.start,
+            values: Items {
+                count: self.keys.count,
+                payload: self.keys.payload,
+                start,
+            },
         }
     }
 
     fn get(&self, key: &JsonbKey) -> Option<JsonbNode<'a>>
-        ensures found { option_map node_tree result ≡ lookup (key_name key.now) (pairs_of (object_tree self.now)) }
-        ensures seat { option_map node_seat result ≡ lookup (key_name key.now) (object_seats self.now) }
+        ensures found { option_map node_tree result
+            ≡ lookup (key_name key.now) (pairs_of (object_tree self.now)) }
+        ensures seat { option_map node_seat result
+            ≡ lookup (key_name key.now) (object_seats self.now) }
     {
         get_in::<Brand>(self, key.bytes(), Blank::new(1))
     }
 
     fn get_named(&self, name: &str) -> Option<JsonbNode<'a>>
-        ensures found { option_map node_tree result ≡ lookup name.now (pairs_of (object_tree self.now)) }
+        ensures found { option_map node_tree result
+            ≡ lookup name.now (pairs_of (object_tree self.now)) }
         ensures seat { option_map node_seat result ≡ lookup name.now (object_seats self.now) }
     {
         get_in::<Brand>(self, name.as_bytes(), Blank::new(1))

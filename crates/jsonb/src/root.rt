@@ -5,26 +5,25 @@ ghost use Rattle.json_model.specs.Nest.{nest};
 ghost use Rattle.json_model.specs.Tree.{Tree, scalar, string as string_scalar};
 ghost use Rattle.jsonb_layout.specs.Seats.{IsRoot, item_seat};
 ghost use Rattle.jsonb_layout.specs.Stands.{Stands};
-ghost use Rattle.jsonb_layout.specs.Trees.{read};
+ghost use Rattle.jsonb_layout.specs.inner.Trees.{read};
 ghost use Rattle.jsonb.specs.Buffers.{buffer_bytes};
 ghost use Rattle.jsonb.specs.Lookup.{key_name};
 ghost use Rattle.jsonb.specs.Nodes.{node_tree};
-ghost use Rattle.jsonb.specs.Reads.{Judges, Reads, lone_tree};
+ghost use Rattle.jsonb.specs.inner.Reads.{Refuses, Reads, lone_tree};
 ghost use Rattle.jsonb.specs.Root.{IsRead, read_tree};
 ghost use Rattle.jsonb.specs.Seated.{node_seat};
-ghost use Rattle.jsonb.specs.Views.{item};
 
 use crate::buffer::JsonbBuffer;
 use crate::error::JsonbError;
 use crate::found::Found;
+use crate::item::Item;
 use crate::key::JsonbKey;
 use crate::kind::Kind;
 use crate::node::JsonbNode;
+use crate::nodes::node_of;
 use crate::opening::lone;
-use crate::own::node_of;
-use crate::position::Entry;
-use crate::scalar::scalar;
-use crate::search::search;
+use crate::scalar::scalar_faults;
+use crate::search::container_faults;
 use json_exact::OutOfMemory;
 use json_traits::Json;
 use std::alloc::Global;
@@ -37,9 +36,9 @@ const SCALAR_WORD: usize = 4;
 
 const SCALAR_PIECE: usize = 8;
 
-/// Whether what was found keeps a slice from being JSON.
-fn judge(found: Found) -> Result<(), JsonbError>
-    ensures { Judges found result }
+/// Refuses a slice by what was found in it.
+fn refuse_faults(found: Found) -> Result<(), JsonbError>
+    ensures { Refuses found result }
 {
     if found.not_text {
         return Err(JsonbError::NotText);
@@ -51,16 +50,17 @@ fn judge(found: Found) -> Result<(), JsonbError>
 }
 
 /// The node of a root scalar's item.
-fn root_scalar(entry: Entry<'_>) -> Result<JsonbNode<'_>, JsonbError>
-    requires { length entry.piece.now < 2 ^ 28 }
-    ensures read { Reads (lone_tree (item entry.entry)) result }
-    ensures seat { IfOk result (λ n. node_seat n ≡ item_seat 0 1 [] (item entry.entry)) }
+fn root_scalar(item: Item<'_>) -> Result<JsonbNode<'_>, JsonbError>
+    ensures read { Reads (lone_tree item.entry) result }
+    ensures seat { IfOk result (λ n. node_seat n ≡ item_seat 0 1 [] item.entry) }
 {
-    let Some(found) = scalar(0, entry) else {
+    // Its piece is short, as that of each item.
+    let _piece = item.piece();
+    let Some(found) = scalar_faults(0, &item) else {
         return Err(JsonbError::Malformed);
     };
-    match judge(found) {
-        Ok(()) => Ok(node_of(SCALAR_WORD, SCALAR_PIECE, 0, entry)),
+    match refuse_faults(found) {
+        Ok(()) => Ok(node_of(SCALAR_WORD, SCALAR_PIECE, 0, item)),
         Err(error) => Err(error),
     }
 }
@@ -70,18 +70,13 @@ fn root_container(alloc: Global, bytes: &[u8]) -> Result<JsonbNode<'_>, JsonbErr
     ensures read { Reads (read bytes.now) result }
     ensures seat { IfOk result (λ n. node_seat n ≡ record { at = 0; kind = 5; bytes = bytes.now }) }
 {
-    let found = match search(alloc, bytes) {
-        Ok(found) => found,
-        Err(error) => return Err(error),
-    };
-    match judge(found) {
-        Ok(()) => Ok(JsonbNode {
-            at: 0,
-            kind: Kind::Container,
-            bytes,
-        }),
-        Err(error) => Err(error),
-    }
+    let found = container_faults(alloc, bytes)?;
+    refuse_faults(found)?;
+    Ok(JsonbNode {
+        offset: 0,
+        kind: Kind::Container,
+        bytes,
+    })
 }
 
 impl Jsonb {
@@ -89,14 +84,16 @@ impl Jsonb {
     ///
     /// It looks at each byte a fixed number of times, and takes memory for the nesting alone.
     pub fn root(alloc: Global, container: &[u8]) -> Result<JsonbNode<'_>, JsonbError>
-        ensures read { (result ≡ Err JsonbError.OutOfMemory) ⊎ IsRead container.now (read_tree result) }
+        ensures read { (result ≡ Err JsonbError.OutOfMemory)
+            ⊎ IsRead container.now (read_tree result) }
         ensures seat { IfOk result (λ n. IsRoot container.now (node_seat n)) }
-        ensures free { (t : Tree) → Stands container.now t → nest t ≤ 1 → result ≡ Err JsonbError.OutOfMemory → ⊥ }
+        ensures free { (t : Tree) → Stands container.now t → nest t ≤ 1 → result
+            ≡ Err JsonbError.OutOfMemory → ⊥ }
     {
-        let Some(entry) = lone(container) else {
-            return root_container(alloc, container);
-        };
-        root_scalar(entry)
+        match lone(container) {
+            Some(item) => root_scalar(item),
+            None => root_container(alloc, container),
+        }
     }
 }
 
@@ -127,7 +124,8 @@ impl<'a> Json<'a> for Jsonb {
         string: &str,
     ) -> Result<JsonbNode<'a>, OutOfMemory>
         ensures tree { IfOk result (λ n. node_tree n ≡ scalar (string_scalar string.now)) }
-        ensures seat { IfOk result (λ n. node_seat n ≡ record { at = 0; kind = 0; bytes = string.now }) }
+        ensures seat { IfOk result
+            (λ n. node_seat n ≡ record { at = 0; kind = 0; bytes = string.now }) }
     {
         buffer.put(alloc, string)?;
         Ok(buffer.node())

@@ -3,13 +3,13 @@
 ghost use Rattle.std.specs.Prelude.{◌≡◌, ◌==◌, ◌<◌, ◌^◌, length, option_map, IfSome, ◌≤◌, true};
 ghost use Rattle.std.specs.List.{list_all};
 ghost use Rattle.std.specs.Str.{is_utf8};
-ghost use Rattle.jsonb_layout.specs.Reading.{unpadded, scalar_of};
+ghost use Rattle.jsonb_layout.specs.inner.Reading.{unpadded, scalar_of};
 ghost use Rattle.jsonb.specs.Found.{scalar_found};
-ghost use Rattle.jsonb.specs.Views.{item};
 
 use crate::found::Found;
+use crate::item::Item;
+use crate::kind::Kind;
 use crate::numeric::narrow_number;
-use crate::position::Entry;
 
 /// The text that the bytes are, which were read before.
 #[tactic(auto, using(crate::proofs::Texts::text_proved))]
@@ -39,7 +39,7 @@ fn all_zero(bytes: &[u8]) -> bool
 }
 
 /// The bytes behind the zero bytes that bring a place to a multiple of four.
-#[tactic(auto, unfolding(jsonb_layout::specs::Reading::unpadded))]
+#[tactic(auto, unfolding(jsonb_layout::specs::inner::Reading::unpadded))]
 pub fn unpad(at: usize, piece: &[u8]) -> Option<&[u8]>
     ensures read { option_map (λ x. x.now) result ≡ unpadded at piece.now }
     ensures len { IfSome result (λ x. length x.now ≤ length piece.now) }
@@ -52,32 +52,32 @@ pub fn unpad(at: usize, piece: &[u8]) -> Option<&[u8]>
     if all_zero(front) { Some(rest) } else { None }
 }
 
-/// What is found in a scalar's item at a place, or none where the item stands for no scalar.
-#[tactic(auto, unfolding(jsonb_layout::specs::Reading::scalar_of))]
-pub fn scalar(at: usize, entry: Entry<'_>) -> Option<Found>
-    requires { length entry.piece.now < 2 ^ 28 }
-    ensures { result ≡ option_map scalar_found (scalar_of at (item entry.entry)) }
+/// What is found in a scalar's item at a place. None where the item stands for no scalar.
+#[tactic(auto, unfolding(jsonb_layout::specs::inner::Reading::scalar_of))]
+pub fn scalar_faults(at: usize, item: &Item<'_>) -> Option<Found>
+    ensures { result ≡ option_map scalar_found (scalar_of at item.now) }
 {
-    match entry.kind {
-        0 => Some(Found {
-            not_text: !is_text(entry.piece),
+    let piece = item.piece();
+    match item.kind()? {
+        Kind::String => Some(Found {
+            not_text: !is_text(piece),
             wide: false,
         }),
-        1 => {
-            let bytes = unpad(at, entry.piece)?;
+        Kind::Number => {
+            let bytes = unpad(at, piece)?;
             let narrow = narrow_number(bytes)?;
             Some(Found {
                 not_text: false,
                 wide: !narrow,
             })
         }
-        2 | 3 | 4 => {
-            if entry.piece.is_empty() {
+        Kind::False | Kind::True | Kind::Null => {
+            if piece.is_empty() {
                 Some(Found::NOTHING)
             } else {
                 None
             }
         }
-        _ => None,
+        Kind::Container => None,
     }
 }

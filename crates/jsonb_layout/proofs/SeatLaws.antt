@@ -2,7 +2,8 @@
 -- that share no byte begin apart.
 use Rattle.std.proofs.Common.{◌≡◌, ℕ, ◌+◌, ◌<◌, ◌≤◌, List, [], ◌∷◌, ◌++◌, refl, sym, ap, subst, ◌∙◌, arith, inl, inr}
 use Rattle.std.proofs.lemmas.Bool.{cases_lt}
-use Rattle.jsonb_layout.specs.Layout.{Item, Form}
+use Rattle.jsonb_layout.specs.Layout.{Item}
+use Rattle.jsonb_layout.specs.declared.form.Form.{Form}
 use Rattle.jsonb_layout.specs.Seats.{Seat, pair_of, Holds, Leads, root_seat, IsRoot, IsSeat}
 use Rattle.jsonb_layout.proofs.OneLayout.{one_layout}
 use Rattle.jsonb_layout.proofs.Extents.{extent, extent_some, Apart, held_apart, one_held, held_inside}
@@ -52,6 +53,7 @@ one_way (i ∷ is) (j ∷ js) s c d (m, h, l) (n, k, r) e = elim (cases_lt i j) 
 
 -- ---- the whole
 
+-- a slice has one root
 pub one_root : (b : List ℕ) (r q : Seat) → IsRoot b r → IsRoot b q → r ≡ q
 one_root b r q (f, xs, l, e) (g, ys, m, h) =
     let same = one_layout b f g xs ys l m in

@@ -5,8 +5,10 @@ use Rattle.std.proofs.lemmas.List.{length-append, length-map}
 use Rattle.std.proofs.lemmas.Option.{slice_get_cases}
 use Rattle.json_model.specs.Parts.{trees_in}
 use Rattle.json_model.specs.Tree.{Tree, scalar, array, object, Elements, no_elements, element, Members, keys, values}
-use Rattle.jsonb_layout.specs.Layout.{Item, Form, list, pairs, lone}
-use Rattle.jsonb_layout.specs.Reading.{◌>>=◌}
+use Rattle.jsonb_layout.specs.Layout.{Item}
+use Rattle.jsonb_layout.specs.declared.form.Form.{Form}
+use Rattle.jsonb_layout.specs.declared.form.Form.TheVariants.{Array, Object, Lone}
+use Rattle.jsonb_layout.specs.Options.{◌>>=◌}
 use Rattle.jsonb_layout.specs.Stands.{key_item, IsArray, IsObject, AreElements, AreValues, Stands}
 use Rattle.jsonb_layout.specs.Seats.{Seat, trees_of, tree_at, AreKeys, Holds, Leads, IsSeat, SeatStands}
 use Rattle.jsonb_layout.proofs.Containers.{not_five}
@@ -25,16 +27,17 @@ trees_count (element t ts) at [] h = absurd h
 trees_count (element t ts) at (x ∷ xs) h = ap suc (trees_count ts (at + length x.piece) xs h.1)
 
 -- The values of an array are all of its items.
-array_values : (f : Form) (ks xs items : List Item) → f ≡ list → AreKeys f ks xs → ks ++ xs ≡ items → length xs ≡ length items
-array_values list ks xs items f k e = omega (arith, ap length k, ap length e, length-append ks xs)
-array_values pairs ks xs items f k e = absurd cc
-array_values lone ks xs items f k e = absurd k
+array_values : (f : Form) (ks xs items : List Item) → f ≡ Array → AreKeys f ks xs → ks ++ xs ≡ items → length xs ≡ length items
+array_values Array ks xs items f k e = omega (arith, ap length k, ap length e, length-append ks xs)
+array_values Object ks xs items f k e = absurd cc
+array_values Lone ks xs items f k e = absurd k
 
 -- The values of an object are as many as its keys.
-object_values : (f : Form) (ks xs js items : List Item) → f ≡ pairs → AreKeys f ks xs → ks ++ xs ≡ js ++ items → length js ≡ length items → length xs ≡ length items
-object_values list ks xs js items f k e n = absurd cc
-object_values pairs ks xs js items f k e n = omega (arith, k, n, ap length e, length-append ks xs, length-append js items)
-object_values lone ks xs js items f k e n = absurd k
+object_values : (f : Form) (ks xs js items : List Item) → f ≡ Object → AreKeys f ks xs → ks ++ xs ≡ js ++ items → length js ≡ length items
+    → length xs ≡ length items
+object_values Array ks xs js items f k e n = absurd cc
+object_values Object ks xs js items f k e n = omega (arith, k, n, ap length e, length-append ks xs, length-append js items)
+object_values Lone ks xs js items f k e n = absurd k
 
 -- ---- a value that is held
 
@@ -42,15 +45,17 @@ object_values lone ks xs js items f k e n = absurd k
 abbrev all_values : {s : Seat} {i : ℕ} {c : Seat} → Holds s i c → List Item
 all_values h = h.before ++ (h.item ∷ h.after)
 
-in_array : (s : Seat) (i : ℕ) (c : Seat) (ts : Elements) (h : Holds s i c) → IsArray (AreElements ts) s.bytes → length (all_values h) ≡ length (trees_in ts)
+in_array : (s : Seat) (i : ℕ) (c : Seat) (ts : Elements) (h : Holds s i c) → IsArray (AreElements ts) s.bytes
+    → length (all_values h) ≡ length (trees_in ts)
 in_array s i c ts h (items, l, are) =
-    let same = one_layout s.bytes h.form list (h.keys ++ all_values h) items h.laid l in
+    let same = one_layout s.bytes h.form Array (h.keys ++ all_values h) items h.laid l in
     array_values h.form h.keys (all_values h) items same.0 h.values same.1 ∙ sym (trees_count ts 0 items are)
 
-in_object : (s : Seat) (i : ℕ) (c : Seat) (ms : Members) (h : Holds s i c) → IsObject (keys ms) (AreValues ms) s.bytes → length (all_values h) ≡ length (trees_in (values ms))
+in_object : (s : Seat) (i : ℕ) (c : Seat) (ms : Members) (h : Holds s i c) → IsObject (keys ms) (AreValues ms) s.bytes
+    → length (all_values h) ≡ length (trees_in (values ms))
 in_object s i c ms h (items, l, rise, are) =
     let ks = map key_item (keys ms) in
-    let same = one_layout s.bytes h.form pairs (h.keys ++ all_values h) (ks ++ items) h.laid l in
+    let same = one_layout s.bytes h.form Object (h.keys ++ all_values h) (ks ++ items) h.laid l in
     object_values h.form h.keys (all_values h) ks items same.0 h.values same.1 (length-map (keys ms) key_item ∙ values_count ms _ items are)
     ∙ sym (trees_count (values ms) _ items (value_elements ms _ items are))
 
@@ -61,7 +66,8 @@ as_many s i c (array ts) h (five, (q, b, k)) = in_array s i c ts h (subst (IsArr
 as_many s i c (object ms) h (five, (q, b, k)) = in_object s i c ms h (subst (IsObject (keys ms) (AreValues ms)) (sym b) k)
 
 -- A value that is held stands for the tree of its number.
-held_stands : (s : Seat) (i : ℕ) (c : Seat) (t : Tree) → Holds s i c → SeatStands s t → (u : Tree) × (slice_get (trees_of t) i ≡ Some u) × SeatStands c u
+held_stands : (s : Seat) (i : ℕ) (c : Seat) (t : Tree) → Holds s i c → SeatStands s t
+    → (u : Tree) × (slice_get (trees_of t) i ≡ Some u) × SeatStands c u
 held_stands s i c t h k =
     let few : i < length (trees_of t) = omega (arith, h.number, as_many s i c t h k, length-append h.before (h.item ∷ h.after)) in
     elim (slice_get_cases (trees_of t) i).1 [

@@ -4,8 +4,8 @@ use Rattle.std.specs.Prelude.{slice_get, if◌then◌else◌}
 use Rattle.std.proofs.lemmas.List.{length-append, length-map, length-replicate, drop_at}
 use Rattle.json_model.specs.Parts.{trees_in}
 use Rattle.json_model.specs.Tree.{Scalar, null, boolean, number, string, Tree, scalar, array, object, Elements, no_elements, element, Members, no_members, member, keys, values}
-use Rattle.jsonb_layout.specs.Layout.{Item, pieces, list, pairs, lone, Laid}
-use Rattle.jsonb_layout.specs.Reading.{pad}
+use Rattle.jsonb_layout.specs.Layout.{Item, pieces, Laid, pad}
+use Rattle.jsonb_layout.specs.declared.form.Form.TheVariants.{Array, Object, Lone}
 use Rattle.jsonb_layout.specs.Stands.{padding, key_item, IsScalar, IsArray, IsObject, IsItem, AreElements, AreValues, Stands}
 use Rattle.jsonb_layout.specs.Seats.{Seat, trees_of, tree_at, is_padded, own_bytes, item_seat, Holds, Leads, IsRoot, IsSeat, SeatStands}
 use Rattle.jsonb_layout.proofs.Tools.{bind_some}
@@ -39,7 +39,8 @@ own_stands (array ts) at x h = (h.0, (h.1.0, own_is at x 5 h.0 ∙ unpad at x.pi
 own_stands (object ms) at x h = (h.0, (h.1.0, own_is at x 5 h.0 ∙ unpad at x.piece h.1.0 h.1.1, h.1.2))
 
 -- What an item stands for, its seat stands for.
-item_stands : (t : Tree) (start n : ℕ) (before : List Item) (x : Item) → IsItem t (length (pieces before)) x → SeatStands (item_seat start n before x) t
+item_stands : (t : Tree) (start n : ℕ) (before : List Item) (x : Item) → IsItem t (length (pieces before)) x
+    → SeatStands (item_seat start n before x) t
 item_stands t start n before x h = own_stands t (length (pieces before)) x h
 
 -- ---- the item of a tree in a tree
@@ -58,12 +59,28 @@ pick no_elements i at items t h e = absurd cc
 pick (element u ts) i at [] t h e = absurd h
 pick (element u ts) zero at (x ∷ xs) t h e =
     let same : u ≡ t = cc in
-    record { before = []; item = x; after = xs; split = refl; number = refl; stands = subst (λ (k : ℕ). IsItem t k x) (omega arith) (subst (λ (v : Tree). IsItem v at x) same h.0) }
+    record {
+      before = [];
+      item = x;
+      after = xs;
+      split = refl;
+      number = refl;
+      stands = subst (λ (k : ℕ). IsItem t k x) (omega arith) (subst (λ (v : Tree). IsItem v at x) same h.0);
+    }
 pick (element u ts) (suc i) at (x ∷ xs) t h e =
     let p = pick ts i (at + length x.piece) xs t h.1 e in
-    let place : at + length x.piece + length (pieces p.before) ≡ at + length (x.piece ++ pieces p.before) = omega (arith, length-append x.piece (pieces p.before)) in
-    record { before = x ∷ p.before; item = p.item; after = p.after; split = ap (λ (l : List Item). x ∷ l) p.split; number = ap suc p.number; stands = subst (λ (k : ℕ). IsItem t k p.item) place p.stands }
+    let place : at + length x.piece + length (pieces p.before) ≡ at + length (x.piece ++ pieces p.before) =
+    omega (arith, length-append x.piece (pieces p.before)) in
+    record {
+      before = x ∷ p.before;
+      item = p.item;
+      after = p.after;
+      split = ap (λ (l : List Item). x ∷ l) p.split;
+      number = ap suc p.number;
+      stands = subst (λ (k : ℕ). IsItem t k p.item) place p.stands;
+    }
 
+-- the values of an object, as elements
 pub value_elements : (ms : Members) (at : ℕ) (xs : List Item) → AreValues ms at xs → AreElements (values ms) at xs
 value_elements no_members at [] h = h
 value_elements no_members at (x ∷ xs) h = h
@@ -85,18 +102,32 @@ pub record Found (s : Seat) (i : ℕ) (t : Tree) : Type 0 where
   pub held : Holds s i seat
   pub stands : SeatStands seat t
 
-in_array : (s : Seat) (ts : Elements) (i : ℕ) (t : Tree) → s.kind ≡ 5 → IsArray (AreElements ts) s.bytes → slice_get (trees_in ts) i ≡ Some t → Found s i t
+in_array : (s : Seat) (ts : Elements) (i : ℕ) (t : Tree) → s.kind ≡ 5 → IsArray (AreElements ts) s.bytes → slice_get (trees_in ts) i ≡ Some t
+    → Found s i t
 in_array s ts i t five (items, l, are) e =
     let p = pick ts i 0 items t are e in
     let all = p.before ++ (p.item ∷ p.after) in
     let place : 0 + length (pieces p.before) ≡ length (pieces p.before) = omega arith in
     record {
       seat = item_seat s.at (length all) p.before p.item;
-      held = record { form = list; keys = []; before = p.before; item = p.item; after = p.after; container = five; laid = subst (λ (xs : List Item). Laid s.bytes list xs) p.split l; values = refl; number = p.number; seat = refl };
+      held =
+          record {
+            form = Array;
+            keys = [];
+            before = p.before;
+            item = p.item;
+            after = p.after;
+            container = five;
+            laid = subst (λ (xs : List Item). Laid s.bytes Array xs) p.split l;
+            values = refl;
+            number = p.number;
+            seat = refl;
+          };
       stands = item_stands t s.at (length all) p.before p.item (subst (λ (k : ℕ). IsItem t k p.item) place p.stands);
     }
 
-in_object : (s : Seat) (ms : Members) (i : ℕ) (t : Tree) → s.kind ≡ 5 → IsObject (keys ms) (AreValues ms) s.bytes → slice_get (trees_in (values ms)) i ≡ Some t → Found s i t
+in_object : (s : Seat) (ms : Members) (i : ℕ) (t : Tree) → s.kind ≡ 5 → IsObject (keys ms) (AreValues ms) s.bytes
+    → slice_get (trees_in (values ms)) i ≡ Some t → Found s i t
 in_object s ms i t five (items, l, rise, are) e =
     let ks = map key_item (keys ms) in
     let at = length (pieces ks) in
@@ -105,10 +136,25 @@ in_object s ms i t five (items, l, rise, are) e =
     let n : length ks ≡ length own = length-map (keys ms) key_item ∙ values_count ms at items are ∙ ap length p.split in
     record {
       seat = item_seat s.at (length (ks ++ own)) (ks ++ p.before) p.item;
-      held = record { form = pairs; keys = ks; before = p.before; item = p.item; after = p.after; container = five; laid = subst (λ (xs : List Item). Laid s.bytes pairs (ks ++ xs)) p.split l; values = n; number = p.number; seat = refl };
-      stands = item_stands t s.at (length (ks ++ own)) (ks ++ p.before) p.item (subst (λ (k : ℕ). IsItem t k p.item) (sym (pieces-append ks p.before)) p.stands);
+      held =
+          record {
+            form = Object;
+            keys = ks;
+            before = p.before;
+            item = p.item;
+            after = p.after;
+            container = five;
+            laid = subst (λ (xs : List Item). Laid s.bytes Object (ks ++ xs)) p.split l;
+            values = n;
+            number = p.number;
+            seat = refl;
+          };
+      stands =
+          item_stands t s.at (length (ks ++ own)) (ks ++ p.before) p.item
+          (subst (λ (k : ℕ). IsItem t k p.item) (sym (pieces-append ks p.before)) p.stands);
     }
 
+-- the tree of a number among those in a tree
 pub tree_in : (s : Seat) (t : Tree) (i : ℕ) (u : Tree) → SeatStands s t → slice_get (trees_of t) i ≡ Some u → Found s i u
 tree_in s (scalar x) i u h e = absurd cc
 tree_in s (array ts) i u (five, (q, b, h)) e = in_array s ts i u five (subst (IsArray (AreElements ts)) (sym b) h) e
@@ -125,10 +171,12 @@ leads_to (i ∷ is) s t u h e =
 
 -- ---- the whole
 
+-- the root stands for the whole tree
 pub root_stands : (b : List ℕ) (t : Tree) → Stands b t → (r : Seat) × IsRoot b r × SeatStands r t
-root_stands b (scalar s) (x, l, h) = (item_seat 0 1 [] x, (lone, x ∷ [], l, refl), item_stands (scalar s) 0 1 [] x h)
-root_stands b (array ts) (items, l, are) = (record { at = 0; kind = 5; bytes = b }, (list, items, l, refl), (refl, (b, refl, (items, l, are))))
-root_stands b (object ms) (items, l, rise, are) = (record { at = 0; kind = 5; bytes = b }, (pairs, map key_item (keys ms) ++ items, l, refl), (refl, (b, refl, (items, l, rise, are))))
+root_stands b (scalar s) (x, l, h) = (item_seat 0 1 [] x, (Lone, x ∷ [], l, refl), item_stands (scalar s) 0 1 [] x h)
+root_stands b (array ts) (items, l, are) = (record { at = 0; kind = 5; bytes = b }, (Array, items, l, refl), (refl, (b, refl, (items, l, are))))
+root_stands b (object ms) (items, l, rise, are) =
+    (record { at = 0; kind = 5; bytes = b }, (Object, map key_item (keys ms) ++ items, l, refl), (refl, (b, refl, (items, l, rise, are))))
 
 -- Each place of the tree that bytes stand for has a seat, and what lies there stands for the tree at the place.
 pub place_has_seat : (b way : List ℕ) (t u : Tree) → Stands b t → tree_at way t ≡ Some u → (s : Seat) × IsSeat b way s × SeatStands s u

@@ -1,16 +1,20 @@
 -- How many elements and keys are read, that keys rise, and that a container is no scalar.
 use Rattle.std.proofs.Common.{◌≡◌, ℕ, zero, suc, true, eqb, List, [], ◌∷◌, length, Option, Some, None, sym, ap, ◌∙◌}
 use Rattle.std.specs.Prelude.{◌&&◌}
+use Rattle.std.proofs.lemmas.Bool.{and_parts}
 use Rattle.json_model.specs.Tree.{Scalar, Tree, scalar, array, object, Elements, no_elements, element}
 use Rattle.json_model.specs.Keys.{rises}
-use Rattle.jsonb_layout.specs.Layout.{Form, list, pairs, lone}
-use Rattle.jsonb_layout.specs.Reading.{◌>>=◌, only_if, Place, item_at, follows, keys_at, opened, ended}
-use Rattle.jsonb_layout.specs.Trees.{item_by, elements_by, members, held_by, container_of, read}
-use Rattle.jsonb_layout.proofs.Tools.{guard, bind_some, some_is, and_both}
+use Rattle.jsonb_layout.specs.declared.form.Form.{Form}
+use Rattle.jsonb_layout.specs.declared.form.Form.TheVariants.{Array, Object, Lone}
+use Rattle.jsonb_layout.specs.Options.{◌>>=◌, only_if}
+use Rattle.jsonb_layout.specs.inner.Reading.{Place, item_at, follows, keys_at, opened, ended}
+use Rattle.jsonb_layout.specs.inner.Trees.{item_by, elements_by, members, held_by, container_of, read}
+use Rattle.jsonb_layout.proofs.Tools.{guard, bind_some, some_is}
 use Rattle.jsonb_layout.proofs.KeyRuns.{rises_after, rises_more, starts}
 use Rattle.jsonb_layout.proofs.Openings.{ended_is}
 use Rattle.jsonb_layout.proofs.Containers.{count}
 
+-- as many elements are read as are asked for
 pub elements_count : (inside : List ℕ → Option Tree) (n : ℕ) (p : Place) (r : Elements × Place) → elements_by inside n p ≡ Some r → count r.0 ≡ n
 unfolding elements_by
 elements_count inside zero p r e = ap (λ (y : Elements × Place). count y.0) (sym (some_is (no_elements, p) r e))
@@ -26,34 +30,45 @@ RisingKeys n before ks = (length ks ≡ n) × (rises_after before ks ≡ true)
 
 keys_rising : (n : ℕ) (before : Option (List ℕ)) (p : Place) (r : List (List ℕ) × Place) → keys_at n before p ≡ Some r → RisingKeys n before r.0
 unfolding keys_at
-keys_rising zero before p r e = let same = some_is ([], p) r e in (ap (λ (y : List (List ℕ) × Place). length y.0) (sym same), ap (λ (y : List (List ℕ) × Place). rises_after before y.0) (sym same) ∙ starts before)
+keys_rising zero before p r e =
+    let same = some_is ([], p) r e in (
+      ap (λ (y : List (List ℕ) × Place). length y.0) (sym same),
+      ap (λ (y : List (List ℕ) × Place). rises_after before y.0) (sym same) ∙ starts before,
+    )
 keys_rising (suc n) before p r e =
-    let a = bind_some (item_at p) (λ x. only_if (eqb x.0.kind 0 && follows before x.0.piece) (keys_at n (Some x.0.piece) x.1) >>= λ ks. Some (x.0.piece ∷ ks.0, ks.1)) r e in
-    let b = bind_some (only_if (eqb a.0.0.kind 0 && follows before a.0.0.piece) (keys_at n (Some a.0.0.piece) a.0.1)) (λ ks. Some (a.0.0.piece ∷ ks.0, ks.1)) r a.2 in
+    let a =
+    bind_some (item_at p)
+    (λ x. only_if (eqb x.0.kind 0 && follows before x.0.piece) (keys_at n (Some x.0.piece) x.1) >>= λ ks. Some (x.0.piece ∷ ks.0, ks.1)) r e in
+    let b =
+    bind_some (only_if (eqb a.0.0.kind 0 && follows before a.0.0.piece) (keys_at n (Some a.0.0.piece) a.0.1))
+    (λ ks. Some (a.0.0.piece ∷ ks.0, ks.1)) r a.2 in
     let g = guard (eqb a.0.0.kind 0 && follows before a.0.0.piece) (keys_at n (Some a.0.0.piece) a.0.1) b.0 b.1 in
     let more = keys_rising n (Some a.0.0.piece) a.0.1 b.0 g.1 in
     let same = some_is (a.0.0.piece ∷ b.0.0, b.0.1) r b.2 in (
       ap (λ (y : List (List ℕ) × Place). length y.0) (sym same) ∙ ap suc more.0,
-      ap (λ (y : List (List ℕ) × Place). rises_after before y.0) (sym same) ∙ rises_more before a.0.0.piece b.0.0 (and_both (eqb a.0.0.kind 0) (follows before a.0.0.piece) g.0).1 more.1,
+      ap (λ (y : List (List ℕ) × Place). rises_after before y.0) (sym same)
+          ∙ rises_more before a.0.0.piece b.0.0 (and_parts (eqb a.0.0.kind 0) (follows before a.0.0.piece) g.0).1 more.1,
     )
 
+-- as many keys are read as are asked for
 pub keys_count : (n : ℕ) (p : Place) (r : List (List ℕ) × Place) → keys_at n None p ≡ Some r → length r.0 ≡ n
 keys_count n p r e = (keys_rising n None p r e).0
 
+-- keys that are read rise
 pub keys_rise : (n : ℕ) (p : Place) (r : List (List ℕ) × Place) → keys_at n None p ≡ Some r → rises r.0 ≡ true
 keys_rise n p r e = (keys_rising n None p r e).1
 
 held_no_scalar : (inside : List ℕ → Option Tree) (f : Form) (c : ℕ) (p : Place) (s : Scalar) → held_by inside f c p ≡ Some (scalar s) → ⊥
-held_no_scalar inside list c p s e =
+held_no_scalar inside Array c p s e =
     let a = bind_some (elements_by inside c p) (λ r. ended r.1 (array r.0)) (scalar s) e in
     let d = ended_is a.0.1 (array a.0.0) (scalar s) a.2 in
     let k : array a.0.0 ≡ scalar s = d.1 in absurd cc
-held_no_scalar inside pairs c p s e =
+held_no_scalar inside Object c p s e =
     let k = bind_some (keys_at c None p) (λ k. elements_by inside c k.1 >>= λ r. ended r.1 (object (members k.0 r.0))) (scalar s) e in
     let a = bind_some (elements_by inside c k.0.1) (λ r. ended r.1 (object (members k.0.0 r.0))) (scalar s) k.2 in
     let d = ended_is a.0.1 (object (members k.0.0 a.0.0)) (scalar s) a.2 in
     let m : object (members k.0.0 a.0.0) ≡ scalar s = d.1 in absurd cc
-held_no_scalar inside lone c p s e = absurd cc
+held_no_scalar inside Lone c p s e = absurd cc
 
 no_scalar : (fuel : ℕ) (b : List ℕ) (s : Scalar) → container_of fuel b ≡ Some (scalar s) → ⊥
 unfolding container_of

@@ -1,13 +1,19 @@
 -- How a container lies in bytes: a header word, a word for each item, and the pieces (PostgreSQL, `jsonb.h`:
 -- `JsonbContainer`, `JEntry`, `JB_OFFSET_STRIDE`). All words are little-endian. That no other shape stands for a tree is
 -- this project's own.
-use Rattle.std.specs.Prelude.{◌≡◌, ℕ, ◌+◌, ◌*◌, ◌%◌, ◌^◌, ◌<◌, List, [], ◌∷◌, ◌++◌, length, if◌then◌else◌, ◌==◌}
+use Rattle.std.specs.Prelude.{◌≡◌, ℕ, ◌+◌, ◌-◌, ◌*◌, ◌%◌, ◌^◌, ◌<◌, List, [], ◌∷◌, ◌++◌, length, if◌then◌else◌, ◌==◌}
 use Rattle.std.specs.List.{flat_map, AllByRecursion}
 use Rattle.std.specs.Int.{w32, to_le_bytes}
+use Rattle.jsonb_layout.specs.declared.form.Form.{Form}
+use Rattle.jsonb_layout.specs.declared.form.Form.TheVariants.{Array, Object, Lone}
 
 pub record Item : Type 0 where
   pub kind : ℕ
   pub piece : List ℕ
+
+-- how many zero bytes bring a place to a multiple of four
+abbrev pub pad : ℕ → ℕ
+pad at = (4 - at % 4) % 4
 
 abbrev pub pieces : List Item → List ℕ
 pieces xs = flat_map (λ x. x.piece) xs
@@ -25,21 +31,16 @@ abbrev pub words : List ℕ → List ℕ
 words ns = flat_map (to_le_bytes w32) ns
 
 -- a container is an array, an object or a root scalar
-pub data Form : Type 0 where
-  list : Form
-  pairs : Form
-  lone : Form
-
 abbrev pub flags : Form → ℕ
-flags list = 4
-flags pairs = 2
-flags lone = 5
+flags Array = 4
+flags Object = 2
+flags Lone = 5
 
 -- how many items a count stands for
 abbrev pub HasCount : Form → ℕ → ℕ → Type 0
-HasCount list count n = n ≡ count
-HasCount pairs count n = n ≡ 2 * count
-HasCount lone count n = (n ≡ count) × (count ≡ 1)
+HasCount Array count n = n ≡ count
+HasCount Object count n = n ≡ 2 * count
+HasCount Lone count n = (n ≡ count) × (count ≡ 1)
 
 pub record Laid (b : List ℕ) (form : Form) (items : List Item) : Type 0 where
   pub count : ℕ

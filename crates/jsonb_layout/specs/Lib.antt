@@ -1,8 +1,7 @@
 pub mod Layout
 pub mod Numeric
+pub mod Options
 pub mod Stands
-pub mod Narrow
-pub mod Reading
-pub mod Trees
 pub mod Seats
-pub mod SeatReading
+pub mod Trees
+pub mod inner

@@ -5,18 +5,13 @@ use Rattle.std.specs.Prelude.{◌≡◌, ℕ, ◌+◌, ◌-◌, ◌*◌, ◌^◌
 use Rattle.std.specs.List.{flat_map}
 use Rattle.std.specs.Int.{w16, w32, to_le_bytes}
 use Rattle.json_model.specs.Decimal.{Decimal}
+use Rattle.jsonb_layout.specs.declared.header.Header.{Header}
 
 -- four bytes, or one; the size counts the header too
 abbrev pub IsVarlena : List ℕ → List ℕ → Type 0
 IsVarlena p body =
     ((length p < 2 ^ 30) × (p ≡ to_le_bytes w32 (4 * length p) ++ body))
     ⊎ ((length p < 2 ^ 7) × (p ≡ (2 * length p + 1) ∷ body))
-
--- what a numeric header says; lift is the weight plus 2 ^ 15, which is not negative
-pub record Header : Type 0 where
-  pub minus : Bool
-  pub dscale : ℕ
-  pub lift : ℕ
 
 abbrev pub bit : Bool → ℕ
 bit b = if b then 1 else 0

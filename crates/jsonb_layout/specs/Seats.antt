@@ -3,8 +3,10 @@
 use Rattle.std.specs.Prelude.{◌≡◌, ℕ, ◌+◌, ◌-◌, ◌*◌, ◌%◌, ◌^◌, List, [], ◌∷◌, ◌++◌, length, drop, slice_get, Option, Some, Bool, ◌==◌, ◌||◌, if◌then◌else◌}
 use Rattle.json_model.specs.Parts.{trees_in}
 use Rattle.json_model.specs.Tree.{Tree, scalar, array, object, values}
-use Rattle.jsonb_layout.specs.Layout.{Item, pieces, Form, list, pairs, lone, Laid}
-use Rattle.jsonb_layout.specs.Reading.{◌>>=◌, pad}
+use Rattle.jsonb_layout.specs.Layout.{Item, pieces, Laid, pad}
+use Rattle.jsonb_layout.specs.declared.form.Form.{Form}
+use Rattle.jsonb_layout.specs.declared.form.Form.TheVariants.{Array, Object, Lone}
+use Rattle.jsonb_layout.specs.Options.{◌>>=◌}
 use Rattle.jsonb_layout.specs.Stands.{IsItem}
 
 -- ---- the places of a tree
@@ -60,9 +62,9 @@ item_seat start n before x =
 
 -- Each item of an array is a value. In an object the values come behind as many keys.
 abbrev pub AreKeys : Form → List Item → List Item → Type 0
-AreKeys list keys xs = keys ≡ []
-AreKeys pairs keys xs = length keys ≡ length xs
-AreKeys lone keys xs = ⊥
+AreKeys Array keys xs = keys ≡ []
+AreKeys Object keys xs = length keys ≡ length xs
+AreKeys Lone keys xs = ⊥
 
 -- An array or object at s holds value number i at c.
 pub record Holds (s : Seat) (i : ℕ) (c : Seat) : Type 0 where
@@ -90,10 +92,10 @@ Leads (i ∷ is) s c = (m : Seat) × Holds s i m × Leads is m c
 -- An array or object is the whole slice, and has no entry word. A root scalar is the one item of its container, which is
 -- never without one.
 abbrev pub root_seat : List ℕ → Form → List Item → Seat
-root_seat b list xs = record { at = 0; kind = 5; bytes = b }
-root_seat b pairs xs = record { at = 0; kind = 5; bytes = b }
-root_seat b lone [] = record { at = 0; kind = 5; bytes = b }
-root_seat b lone (x ∷ xs) = item_seat 0 1 [] x
+root_seat b Array xs = record { at = 0; kind = 5; bytes = b }
+root_seat b Object xs = record { at = 0; kind = 5; bytes = b }
+root_seat b Lone [] = record { at = 0; kind = 5; bytes = b }
+root_seat b Lone (x ∷ xs) = item_seat 0 1 [] x
 
 abbrev pub IsRoot : List ℕ → Seat → Type 0
 IsRoot b s = (form : Form) × (items : List Item) × Laid b form items × (s ≡ root_seat b form items)

@@ -1,14 +1,15 @@
 -- Which bytes stand for which tree: the grammar of `jsonb` (PostgreSQL, `jsonb.h`), over the whole slice. That a root
 -- scalar is no container is this project's own.
-use Rattle.std.specs.Prelude.{◌≡◌, ℕ, ◌+◌, ◌-◌, ◌%◌, IsTrue, List, [], ◌∷◌, ◌++◌, length, replicate, map, if◌then◌else◌}
+use Rattle.std.specs.Prelude.{◌≡◌, ℕ, ◌+◌, IsTrue, List, [], ◌∷◌, ◌++◌, length, replicate, map, if◌then◌else◌}
 use Rattle.json_model.specs.Tree.{Scalar, null, boolean, number, string, Tree, scalar, array, object, Elements, no_elements, element, Members, no_members, member, keys}
 use Rattle.json_model.specs.Keys.{rises}
 use Rattle.jsonb_layout.specs.Numeric.{Numeric}
-use Rattle.jsonb_layout.specs.Layout.{Item, pieces, Laid, list, pairs, lone}
+use Rattle.jsonb_layout.specs.Layout.{Item, pieces, Laid, pad}
+use Rattle.jsonb_layout.specs.declared.form.Form.TheVariants.{Array, Object, Lone}
 
 -- the zero bytes that bring a place to a multiple of four
 abbrev pub padding : ℕ → List ℕ
-padding at = replicate ((4 - at % 4) % 4) 0
+padding at = replicate (pad at) 0
 
 abbrev pub IsPadded : (List ℕ → Type 0) → ℕ → List ℕ → Type 0
 IsPadded P at piece = (q : List ℕ) × (piece ≡ padding at ++ q) × P q
@@ -25,11 +26,12 @@ key_item k = record { kind = 0; piece = k }
 
 -- An array's items from place 0 on are Placed.
 abbrev pub IsArray : (ℕ → List Item → Type 0) → List ℕ → Type 0
-IsArray Placed b = (items : List Item) × Laid b list items × Placed 0 items
+IsArray Placed b = (items : List Item) × Laid b Array items × Placed 0 items
 
 -- An object's keys come first and rise. The other items, from the end of the keys on, are Placed.
 abbrev pub IsObject : List (List ℕ) → (ℕ → List Item → Type 0) → List ℕ → Type 0
-IsObject ks Placed b = (items : List Item) × Laid b pairs (map key_item ks ++ items) × IsTrue (rises ks) × Placed (length (pieces (map key_item ks))) items
+IsObject ks Placed b =
+    (items : List Item) × Laid b Object (map key_item ks ++ items) × IsTrue (rises ks) × Placed (length (pieces (map key_item ks))) items
 
 abbrev mutual
   -- An item at a place stands for a tree.
@@ -53,6 +55,6 @@ abbrev mutual
 
 -- The bytes stand for the tree, all of them.
 abbrev pub Stands : List ℕ → Tree → Type 0
-Stands b (scalar s) = (x : Item) × Laid b lone (x ∷ []) × IsScalar s 0 x
+Stands b (scalar s) = (x : Item) × Laid b Lone (x ∷ []) × IsScalar s 0 x
 Stands b (array ts) = IsArray (AreElements ts) b
 Stands b (object ms) = IsObject (keys ms) (AreValues ms) b

@@ -1,13 +1,12 @@
 //! Which bytes stand for which tree in PostgreSQL's `jsonb` layout: words for contracts, and the theory that joins them.
 //!
-//! There is no code here. In `specs/`
+//! There is no code here but [`Form`] and [`Header`], which the definitions and the reader share. In `specs/`
 //!
 //! - `Layout`, `Numeric` and `Stands` are the relation that a user believes: `Stands bytes tree` says that the bytes, all of
 //!   them, are a header word, entry words and pieces that stand for the tree;
-//! - `Narrow`, `Reading` and `Trees` compute the same from left to right, one small definition for each function of the
-//!   reader in the crate `jsonb`;
 //! - `Seats` says where in the bytes the value at a place of the tree lies, and which two numbers tell it from every other;
-//!   `SeatReading` computes that.
+//! - `inner/` computes the same from left to right, one small definition for each function of the reader in the crate `jsonb`.
+//!   A user need not believe it.
 //!
 //! In `proofs/`, `Containers.tree_takes` and `tree_again` prove that both say the same, `one_tree` that no bytes stand for
 //! two trees, and `Cuts.no_more` that no proper front of what stands for a tree stands for one. `SeatTrees.place_has_seat` and
@@ -17,3 +16,9 @@
 //! For example the eight bytes `01 00 00 50  00 00 00 c0` stand for null: a root scalar of one entry, whose word has
 //! HAS_OFF (bit 31), the kind 4 (null) and the sum 0.
 #![tactic(auto)]
+
+mod form;
+mod header;
+
+pub use form::Form;
+pub use header::Header;

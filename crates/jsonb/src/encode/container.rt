@@ -43,7 +43,8 @@ pub fn assemble(
 pub fn encode_nested_arrays(alloc: Global, depth: usize) -> Result<Vec<u8>, EncodeError>
     ensures stands { IfOk result (λ bytes. Stands bytes.items (nested_arrays depth)) }
     ensures too_large { (result ≡ Err EncodeError.TooLarge) ↔ 2 ^ 25 < depth }
-    ensures causes { IfErr result (λ error. (error ≡ EncodeError.TooLarge) ⊎ (error ≡ EncodeError.OutOfMemory)) }
+    ensures causes { IfErr result
+        (λ error. (error ≡ EncodeError.TooLarge) ⊎ (error ≡ EncodeError.OutOfMemory)) }
 {
     if depth > MAX_DEPTH {
         return Err(EncodeError::TooLarge);

@@ -25,7 +25,8 @@ pub enum HexError {
 pub fn decode_hex(alloc: Global, text: &str) -> Result<Vec<u8>, HexError>
     ensures ok { IfOk result (λ bytes. IsHexText text.now bytes.items) }
     ensures odd { (result ≡ Err HexError.OddLength) ↔ (length text.now % 2 ≡ 1) }
-    ensures not_hex { (place : ℕ) → result ≡ Err (HexError.NotHex place) → IsFirstNotHex text.now place }
+    ensures not_hex { (place : ℕ) → result ≡ Err (HexError.NotHex place)
+        → IsFirstNotHex text.now place }
 
     // Else each text is answered by what it is.
     ensures accepts { (bytes : List ℕ) → IsHexText text.now bytes

@@ -6,4 +6,6 @@ use Rattle.json_model.specs.Keys.{bytes_before}
 use Rattle.jsonb.proofs.keys.comes_before.Goals as goal
 
 pub returns : goal.returns
-returns c = same_from_slice_cmp_tested nat_cmp is_lt bytes_before refl (λ _ _. refl) (λ _ _. refl) (λ x y xs ys o h. grind (arith, nat_tests)) c.args.a.now c.args.b.now c.lt.result c.lt.ensures
+returns c =
+    same_from_slice_cmp_tested nat_cmp is_lt bytes_before refl (λ _ _. refl) (λ _ _. refl) (λ x y xs ys o h. grind (arith, nat_tests)) c.args.a.now
+    c.args.b.now c.lt.result c.lt.ensures

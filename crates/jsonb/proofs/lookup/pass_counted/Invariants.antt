@@ -1,13 +1,10 @@
-use Rattle.std.proofs.Common.{◌≡◌, ◌-◌, ◌+◌, ◌≤◌, length}
-use Rattle.jsonb.specs.Values.{skip}
-use Rattle.jsonb.specs.Views.{place}
+use Rattle.std.proofs.Common.{◌≡◌, ◌+◌}
+use Rattle.jsonb.specs.inner.Views.{place}
+use Rattle.jsonb.proofs.Walks.{Passes}
 use Rattle.jsonb.proofs.lookup.pass_counted.Given as goal
 
 abbrev pub invariant-loop : goal.invariant-loop
 invariant-loop g l = record {
-  reads : skip (l.count - l.counter) (place l.position) ≡ skip l.count (place l.start);
-  index : l.position.index ≡ l.start.index + l.counter;
-  at : l.position.at + length l.position.rest.now ≡ l.start.at + length l.start.rest.now;
-  words : length l.position.words.now ≤ length l.start.words.now;
+  passes : Passes l.count l.counter (place l.current) (place l.start);
   ticks : l.steps ≡ l.fn.steps + l.counter;
 }

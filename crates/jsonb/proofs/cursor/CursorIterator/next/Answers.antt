@@ -1,35 +1,41 @@
 use Rattle.std.proofs.Common.{◌-◌, ◌∷◌, length, sym, ap, ◌∙◌, arith}
-use Rattle.jsonb_layout.specs.SeatReading.{seats_at}
+use Rattle.std.specs.Prelude.{option_map}
 use Rattle.jsonb_layout.specs.Seats.{Seat}
-use Rattle.jsonb.specs.Views.{item, place}
+use Rattle.jsonb_layout.specs.inner.SeatReading.{seats_at}
+use Rattle.jsonb.specs.inner.Views.{place}
 use Rattle.jsonb.proofs.CursorLaws.{elements_go_on, element_is}
 use Rattle.jsonb.proofs.SeatTrees.{no_seats_left, seats_go_on}
+use Rattle.jsonb.proofs.Walks.{item_behind}
 use Rattle.jsonb.proofs.cursor.CursorIterator.next.Goals as goal
 
-pub returns-then-self-eq0-clause-steps : goal.returns-then-self-eq0-clause-steps
-returns-then-self-eq0-clause-steps c = let e = no_seats_left c.args.self.now.payload c.args.self.now.left (place c.args.self.now.position) c.if-self-eq0.true in (e, e)
+pub returns-then-left-eq0-clause-steps : goal.returns-then-left-eq0-clause-steps
+returns-then-left-eq0-clause-steps c = let e = no_seats_left c.args.self.now.left c.if-left-eq0.true in (e, e)
 
 pub unreachable-requires : goal.unreachable-requires
-unreachable-requires c = elements_go_on c.args.self.now.left (place c.args.self.now.position) (omega arith) c.args.self.now.stands c.in_default.ensures.read
+unreachable-requires c = elements_go_on c.args.self.now (omega arith) c.in_default.ensures
 
-pub node_at-node-requires-clause-stands : goal.node_at-node-requires-clause-stands
-node_at-node-requires-clause-stands c = (element_is c.args.self.now.left (place c.args.self.now.position) (omega arith) c.args.self.now.stands (item c.in-Some.entry) (place c.in-Some.position) c.in-Some.ensures.read).value
+pub node-node-requires-clause-first : goal.node-node-requires-clause-first
+node-node-requires-clause-first c = ap (option_map (λ x. x.0)) (sym c.in-Some.ensures)
+
+pub node-node-requires-clause-stands : goal.node-node-requires-clause-stands
+node-node-requires-clause-stands c = (element_is c.args.self.now (omega arith) c.in-Some.ensures).value
 
 pub invariant_of-self : goal.invariant_of-self
-invariant_of-self c = record {
-  stands = (element_is c.args.self.now.left (place c.args.self.now.position) (omega arith) c.args.self.now.stands (item c.in-Some.entry) (place c.in-Some.position) c.in-Some.ensures.read).more;
-  index = omega (arith, c.args.self.now.index, c.in-Some.ensures.index);
-  at = omega (arith, c.args.self.now.at, c.in-Some.ensures.at);
-  words = omega (arith, c.args.self.now.words, c.in-Some.ensures.words);
-  room = omega (arith, c.args.self.now.room, c.in-Some.ensures.at);
-}
+invariant_of-self c =
+    let left = c.args.self.now.left in
+    let b = item_behind c.in-Some.ensures in
+    record { words = omega (arith, b.words, left.words); room = omega (arith, b.end, left.room) }
+
+pub invariant_of-self-2 : goal.invariant_of-self-2
+invariant_of-self-2 c = record { stands = (element_is c.args.self.now (omega arith) c.in-Some.ensures).more }
 
 pub returns-clause-steps : goal.returns-clause-steps
 returns-clause-steps c =
-    seats_go_on c.args.self.now.payload c.args.self.now.left (place c.args.self.now.position) (place c.in-Some.position) (item c.in-Some.entry) (omega arith) c.in-Some.ensures.read
-    ∙ ap (λ (s : Seat). s ∷ seats_at c.args.self.now.payload (c.args.self.now.left - 1) (place c.in-Some.position)) (sym c.node_at-node.ensures.seat)
+    let left = c.args.self.now.left in
+    seats_go_on left (omega arith) c.in-Some.ensures
+    ∙ ap (λ (s : Seat). s ∷ seats_at left.payload (left.count - 1) (place c.in-Some.start)) (sym c.node-node.ensures.seat)
 
 pub returns-clause-goes : goal.returns-clause-goes
 returns-clause-goes c =
-    let e = seats_go_on c.args.self.now.payload c.args.self.now.left (place c.args.self.now.position) (place c.in-Some.position) (item c.in-Some.entry) (omega arith) c.in-Some.ensures.read in
+    let e = seats_go_on c.args.self.now.left (omega arith) c.in-Some.ensures in
     record { on = λ _. (tt, tt, omega (arith, ap length e)); keeps = tt; rests = λ _. tt }

@@ -11,7 +11,11 @@ loop-entry-init c = c.in_ok-push_word.ensures ∙ ap (λ (xs : List ℕ). xs ++ 
 pub loop-entry-preserved : goal.loop-entry-preserved
 loop-entry-preserved c =
     let word = to_le_bytes w32 (slice_index_or c.args.entries.now c.loop-entry.entry-index 0) in
-    c.in_ok-push_word-2.ensures ∙ ap (λ (xs : List ℕ). xs ++ word) c.loop-entry.invariant ∙ one_more c.args.flags c.args.entries.now c.loop-entry.entry-index c.loop-entry-test.true
+    c.in_ok-push_word-2.ensures
+    ∙ ap (λ (xs : List ℕ). xs ++ word) c.loop-entry.invariant
+    ∙ one_more c.args.flags c.args.entries.now c.loop-entry.entry-index c.loop-entry-test.true
 
 pub returns : goal.returns
-returns c = all_words c.args.flags c.args.entries.now c.args.payload.now c.loop-entry.bytes.items c.push_all.new.bytes.items c.loop-entry.entry-index c.loop-entry-test.false c.loop-entry.invariant c.in_ok-push_all.ensures
+returns c =
+    all_words c.args.flags c.args.entries.now c.args.payload.now c.loop-entry.bytes.items c.push_all.new.bytes.items c.loop-entry.entry-index
+    c.loop-entry-test.false c.loop-entry.invariant c.in_ok-push_all.ensures

@@ -1,0 +1,81 @@
+//! The items of a container, one after the other.
+
+ghost use Rattle.std.specs.Prelude.{◌≡◌, ◌+◌, option_map};
+ghost use Rattle.jsonb_layout.specs.inner.Reading.{length_of, item_at};
+ghost use Rattle.jsonb.specs.inner.Values.{skip};
+ghost use Rattle.jsonb.specs.inner.Views.{place, item_then_place};
+
+use crate::item::Item;
+use crate::place::Place;
+use crate::steps::Steps;
+use std::sync::ledger::Ledger;
+
+const HAS_OFFSET: u32 = 0x8000_0000;
+
+/// How long a piece is, by its entry word: each 32nd word gives the sum of all lengths so far.
+#[tactic(auto, unfolding(jsonb_layout::specs::inner::Reading::length_of))]
+fn piece_length(index: usize, at: usize, word: u32) -> Option<usize>
+    ensures { result ≡ length_of index at word }
+{
+    let field = (word % 0x1000_0000) as usize;
+    if index % 32 == 0 {
+        if word >= HAS_OFFSET && at <= field {
+            Some(field - at)
+        } else {
+            None
+        }
+    } else if word < HAS_OFFSET {
+        Some(field)
+    } else {
+        None
+    }
+}
+
+/// The item at a place, and the place behind it.
+#[tactic(auto, unfolding(jsonb_layout::specs::inner::Reading::item_at))]
+pub fn next_item(start: Place<'_>) -> Option<(Item<'_>, Place<'_>)>
+    ensures { option_map item_then_place result ≡ item_at (place start.entry) }
+{
+    if start.words.len() < 4 {
+        return None;
+    }
+    let (front, words) = start.words.split_at(4);
+    let word = u32::from_le_bytes([front[0], front[1], front[2], front[3]]);
+    let length = piece_length(start.index, start.at, word)?;
+    if start.rest.len() < length {
+        return None;
+    }
+    let (piece, rest) = start.rest.split_at(length);
+    let item = Item::new((word / 0x1000_0000 % 8) as u8, piece);
+    let behind = Place {
+        index: start.index + 1,
+        at: start.at + length,
+        words,
+        rest,
+    };
+    Some((item, behind))
+}
+
+/// The item at a place, and a step for its entry word. A look-up by key reads entry words by this call alone.
+pub fn next_item_counted<'a, L: Ledger>(
+    start: Place<'a>,
+    steps: &mut Steps<L>,
+) -> Option<(Item<'a>, Place<'a>)>
+    ensures read { option_map item_then_place result ≡ item_at (place start.entry) }
+    ensures steps { steps.new ≡ steps.old + 1 }
+{
+    steps.tick();
+    next_item(start)
+}
+
+/// Where so many items end.
+pub fn pass(count: usize, start: Place<'_>) -> Option<Place<'_>>
+    ensures { option_map place result ≡ skip count (place start.entry) }
+{
+    let mut current = start;
+    for _ in 0..count {
+        let (_, behind) = next_item(current)?;
+        current = behind;
+    }
+    Some(current)
+}

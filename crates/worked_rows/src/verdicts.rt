@@ -547,28 +547,3 @@ fn judges_nested_documents(rt: HostRuntime) -> Result<(), Fail> {
     }
     Ok(())
 }
-
-#[test]
-fn errors_print_their_names(rt: HostRuntime) -> Result<(), Fail> {
-    let alloc = rt.alloc();
-    let rows = [
-        (
-            JudgeError::Keywords(Fault::Malformed),
-            "Keywords(Malformed)",
-        ),
-        (JudgeError::NotAnObject, "NotAnObject"),
-        (JudgeError::UnknownKeyword { member: 2 }, "UnknownKeyword"),
-        (JudgeError::BadKeyword { member: 2 }, "BadKeyword"),
-        (JudgeError::Document(Fault::NotText), "Document(NotText)"),
-        (
-            JudgeError::Document(Fault::NumberTooWide),
-            "Document(NumberTooWide)",
-        ),
-        (JudgeError::Unbuilt, "Unbuilt"),
-        (JudgeError::OutOfMemory, "OutOfMemory"),
-    ];
-    for (error, name) in &rows {
-        assert_eq!(rt; error.to_string(alloc)?.as_str(), *name);
-    }
-    Ok(())
-}

@@ -1,5 +1,5 @@
 -- Each input has one text of answers, and what a run wrote begins it.
-use Rattle.std.proofs.Common.{◌≡◌, ◌⊎◌, inl, inr, ℕ, List, [], ◌∷◌, ◌++◌, refl, sym, ap, ◌∙◌, subst, append_assoc, append-nil}
+use Rattle.std.proofs.Common.{◌≡◌, inl, inr, ℕ, List, [], ◌∷◌, ◌++◌, refl, sym, ap, ◌∙◌, subst, append_assoc, append-nil}
 use Rattle.judge.specs.Answers.{Answers, LineAnswer}
 use Rattle.judge.specs.Lines.{lines_of}
 use Rattle.judge.specs.Ran.{Agrees, AnswersBefore, AnswersEnded, IsCutOff, StopsAt}

@@ -1,5 +1,5 @@
 -- Each line has one answer.
-use Rattle.std.proofs.Common.{◌≡◌, ◌⊎◌, inl, inr, ℕ, zero, suc, ◌+◌, ◌/◌, ◌%◌, ◌<◌, List, [], ◌∷◌, ◌++◌, get_or, Bool, true, false, Option, Some, None, Result, Ok, Err, refl, sym, ap, ◌∙◌, subst, arith, codes}
+use Rattle.std.proofs.Common.{◌≡◌, ◌⊎◌, inl, inr, ℕ, List, [], ◌∷◌, ◌++◌, true, false, Option, Some, None, Result, Ok, Err, refl, sym, ap, ◌∙◌, subst, codes}
 use Rattle.std.specs.Prelude.{IsSome}
 use Rattle.std.proofs.lemmas.Bool.Decides.{eqb_tells}
 use Rattle.json_model.specs.Tree.{Tree}
@@ -7,11 +7,10 @@ use Rattle.jsonb.proofs.HexTexts.{hex_bytes, hex_once, hex_or_none}
 use Rattle.jsonb.specs.Root.{IsRead}
 use Rattle.jsonb.specs.declared.error.JsonbError.{JsonbError}
 use Rattle.jsonb.specs.declared.error.JsonbError.TheVariants as read
-use Rattle.judge.specs.Answers.{IsBadLine, IsJudged, IsPair, LineAnswer, fault_name, name_of}
+use Rattle.judge.specs.Answers.{IsJudged, IsPair, LineAnswer, fault_name, name_of}
 use Rattle.judge.specs.Lines.{Lacks}
 use Rattle.judge.specs.Right.{Answer, Right, RightFrom, RightOf, RightWith}
 use Rattle.judge.specs.Validity.{HasFault}
-use Rattle.judge.specs.declared.errors.JudgeError.{JudgeError}
 use Rattle.judge.specs.declared.errors.JudgeError.TheVariants.{Keywords, NotAnObject, UnknownKeyword, BadKeyword, Document, Unbuilt, OutOfMemory}
 use Rattle.judge.specs.declared.errors.KeywordError.{KeywordError}
 use Rattle.judge.specs.declared.errors.KeywordError.TheVariants as keyword

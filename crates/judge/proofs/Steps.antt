@@ -1,16 +1,15 @@
 -- How the steps of a run follow one another.
-use Rattle.std.proofs.Common.{◌≡◌, ◌⊎◌, inl, inr, ℕ, ◌+◌, ◌-◌, ◌^◌, ◌<◌, ◌≤◌, List, [], ◌∷◌, ◌++◌, length, Option, Result, Ok, Err, refl, sym, ap, ◌∙◌, subst, append_assoc, append-nil, length-append, arith}
+use Rattle.std.proofs.Common.{◌≡◌, inl, inr, ℕ, ◌+◌, ◌-◌, ◌^◌, ◌<◌, ◌≤◌, List, [], ◌∷◌, ◌++◌, length, Option, Result, Ok, Err, refl, sym, ap, ◌∙◌, subst, append_assoc, append-nil, length-append, arith}
 use Rattle.std.specs.Prelude.{IfErr, OnOk, min}
-use Rattle.std.specs.Io.KnownBytes.{Appends}
 use Rattle.judge.specs.declared.status.Status.{Status}
-use Rattle.judge.specs.declared.status.Status.TheVariants.{WriteFault, LineTooLong, OutOfMemory}
+use Rattle.judge.specs.declared.status.Status.TheVariants.{WriteFault, OutOfMemory}
 use Rattle.judge.specs.declared.stream.SinkError.{SinkError}
 use Rattle.judge.specs.declared.stream.SinkError.TheVariants as sink
 use Rattle.judge.specs.Answers.{Answers}
 use Rattle.judge.specs.Faults.{SinkCountsEach}
 use Rattle.judge.specs.Feeding.{Answered, AnswersOne, AnswersRest, Extends, Feeds, IsOpenLine, Puts, StoppedAt, StoppedIn}
 use Rattle.judge.specs.Lines.{IsOneLine, lines_of, text_of}
-use Rattle.judge.specs.Ran.{AnswersBefore, IsCutOff}
+use Rattle.judge.specs.Ran.{IsCutOff}
 use Rattle.judge.proofs.KnownBytes.{Appends-both, Appends-none}
 use Rattle.judge.proofs.Texts.{Answers-append, AreLines-append, AreShort-append, Lacks-append, lines_of-alone, lines_of-text, one_line, text_of-append, text_of-more}
 

@@ -1,6 +1,6 @@
 //! Laws of the answers to lines, for all inputs. What a function here is for is its contract.
 
-ghost use Rattle.std.specs.Prelude.{◌≡◌, ◌++◌, ℕ, List, Err, IsSome};
+ghost use Rattle.std.specs.Prelude.{◌≡◌, ◌++◌, ℕ, List, IsSome};
 ghost use Rattle.judge.specs.Answers.{Answers, LineAnswer, name_of};
 ghost use Rattle.judge.specs.Lines.{lines_of};
 ghost use Rattle.judge.specs.Ran.{Agrees};

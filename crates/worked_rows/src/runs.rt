@@ -1,7 +1,7 @@
 //! Runs over lines.
 
 use crate::slow::{SlowSink, SlowSource};
-use judge::{Failed, MemorySink, MemorySource, SinkError, Status, SteadySink, SteadySource, run};
+use judge::{MemorySink, MemorySource, Status, SteadySink, SteadySource, run};
 use std::alloc::{AllocError, Global};
 use std::test::Fail;
 
@@ -201,17 +201,5 @@ fn words_are_none_or_check(rt: HostRuntime) -> Result<(), Fail> {
         let mut again = memory_source(alloc, VALID, &[])?;
         assert_eq!(rt; run(alloc, &words, &mut again, &mut steady), *status);
     }
-    Ok(())
-}
-
-#[test]
-fn errors_print_their_names(rt: HostRuntime) -> Result<(), Fail> {
-    let alloc = rt.alloc();
-    assert_eq!(rt; Failed.to_string(alloc)?.as_str(), "Failed");
-    assert_eq!(rt; SinkError::Failed.to_string(alloc)?.as_str(), "Failed");
-    assert_eq!(rt;
-        SinkError::OutOfMemory.to_string(alloc)?.as_str(),
-        "OutOfMemory"
-    );
     Ok(())
 }

@@ -1,7 +1,4 @@
-use Rattle.std.proofs.Common.{◌≡◌, ◌++◌, [], arith}
-use Rattle.std.proofs.lemmas.Grind.{common_steps}
 use Rattle.std.proofs.lemmas.Result.{err_from_is_err_and}
-use Rattle.judge.specs.Feeding.{IsOpenLine}
 use Rattle.judge.proofs.Steps.{still_open, stopped_extending}
 use Rattle.judge.proofs.lines.end_line.Goals as goal
 

@@ -1,0 +1,158 @@
+-- Each token takes a character at least.
+use Rattle.std.proofs.Common.{◌≡◌, ℕ, zero, suc, ◌+◌, ◌*◌, ◌-◌, ◌<◌, ◌≤◌, Bool, true, false, List, [], ◌∷◌, ◌++◌, length, drop, Option, Some, None, option_map, option_and_then, refl, ap, arith}
+use Rattle.std.specs.Prelude.{if◌then◌else◌, ◌==◌, nat_le, ◌&&◌, ◌||◌}
+use Rattle.pattern_model.specs.Tree.{Escape, Mark, Count, count_of, Token}
+use Rattle.pattern_model.specs.Text.{Text, is_at, with_front, many_in, many, Shrinks}
+use Rattle.pattern_model.specs.Digits.{is_digit, digit_at, digits_from, digits}
+use Rattle.pattern_model.specs.GroupNames.{name, name_start, name_parts, name_part, past_bracket, starts_name, if_part, name_character}
+use Rattle.pattern_model.specs.Classes.{class_part, class_items}
+use Rattle.pattern_model.specs.Escapes.{character_escape, class_escape}
+use Rattle.pattern_model.specs.Properties.{past_property}
+use Rattle.pattern_model.specs.Quantifiers.{quantifier, most_from, after_comma, least_from, braces}
+use Rattle.pattern_model.specs.Groups.{flags_from, flags, opens, bracketed, marked, opening}
+use Rattle.pattern_model.specs.Tokens.{class_token, class_from, leaf_of_name, back_name, leaf_of_code, escape_or_code, escaped, token_from, Reads}
+use Rattle.pattern_model.proofs.PartLaws.{Short, short_if, short_bind, short_map, short_more, short_shrinks, Less, less_if, short_text, drop_less, property_less, character_short, name_character_short, name_part_shrinks, class_part_shrinks, nothing, left, no_text, text}
+
+if_short : (n : ℕ) (b : Bool) (p q : Token × Text) → length p.1 < n → length q.1 < n → length (if b then p else q).1 < n
+if_short n true p q h g = h
+if_short n false p q h g = g
+
+quantifier_short : (l : Count) (m : Option Count) (x : Text) (n : ℕ) → length x < n → length (quantifier l m x).1 < n
+unfolding quantifier
+quantifier_short l m x n h = if_short n (is_at 63 x) _ _ (drop_less 1 n x h) h
+
+pair_less : (n : ℕ) (b : Bool) (p q : ℕ × Text) → length p.1 < n → length q.1 < n → length (if b then p else q).1 < n
+pair_less n true p q h g = h
+pair_less n false p q h g = g
+
+digits_short : (v : ℕ) (x : Text) (n : ℕ) → length x < n → length (digits_from v x).1 < n
+digits_short v [] n h = h
+digits_short v (c ∷ x) n h = pair_less n (is_digit c) (digits_from (10 * v + (c - 48)) x) (v, c ∷ x) (digits_short (10 * v + (c - 48)) x n (omega arith)) h
+
+most_short : (v : ℕ) (p : ℕ × Text) (n : ℕ) → length p.1 < n → Short n (most_from v p)
+most_short v p n h = short_if (nat_le v p.0 && is_at 125 p.1) (left (quantifier_short (count_of v) (Some (count_of p.0)) (drop 1 p.1) n (drop_less 1 n p.1 h))) nothing
+
+comma_short : (v : ℕ) (x : Text) (n : ℕ) → length x < n → Short n (after_comma v x)
+unfolding after_comma digits
+comma_short v x n h =
+    short_if (is_at 125 x) (left (quantifier_short (count_of v) None (drop 1 x) n (drop_less 1 n x h)))
+    (short_if (digit_at x) (most_short v (digits_from 0 x) n (digits_short 0 x n h)) nothing)
+
+least_short : (p : ℕ × Text) (n : ℕ) → length p.1 < n → Short n (least_from p)
+least_short p n h =
+    short_if (is_at 125 p.1) (left (quantifier_short (count_of p.0) (Some (count_of p.0)) (drop 1 p.1) n (drop_less 1 n p.1 h)))
+    (short_if (is_at 44 p.1) (comma_short p.0 (drop 1 p.1) n (drop_less 1 n p.1 h)) nothing)
+
+braces_short : (x : Text) (n : ℕ) → length x < n → Short n (braces x)
+unfolding braces digits
+braces_short x n h = short_if (digit_at x) (least_short (digits_from 0 x) n (digits_short 0 x n h)) nothing
+
+flags_short : (i m s d : Bool) (x : Text) (n : ℕ) → length x < n → Less n (flags_from i m s d x)
+flags_short i m s d [] n h = no_text
+flags_short i m s d (c ∷ x) n h =
+    let l : length x < n = omega arith in
+    less_if (c == 58) (less_if (i || (m || s)) (text l) no_text)
+    (less_if (c == 45) (less_if d no_text (flags_short i m s true x n l))
+    (less_if (c == 105) (less_if i no_text (flags_short true m s d x n l))
+    (less_if (c == 109) (less_if m no_text (flags_short i true s d x n l))
+    (less_if (c == 115) (less_if s no_text (flags_short i m true d x n l)) no_text))))
+
+bind_eq : {A B : Type 0} (n : ℕ) (f : A × Text → Option (B × Text)) (o : Option (A × Text)) → ((p : A × Text) → o ≡ Some p → Short n (f p)) → Short n (option_and_then f o)
+bind_eq n f None h = nothing
+bind_eq n f (Some p) h = h p refl
+
+front_short : {A : Type 0} (n : ℕ) (xs : List A) (r : Option (List A × Text)) → Short n r → Short n (with_front xs r)
+front_short n xs r h = short_map n (λ p. (xs ++ p.0, p.1)) r (λ p. refl) h
+
+many_in_short : {A : Type 0} (stop : Text → Bool) (one : Text → Option (List A × Text)) → Shrinks one → (k : ℕ) (x : Text) (n : ℕ) → length x < n → Short n (many_in stop one k x)
+many_in_short stop one s zero x n h = nothing
+many_in_short stop one s (suc k) x n h =
+    short_if (stop x) (left h) (bind_eq n (λ p. with_front p.0 (many_in stop one k p.1)) (one x) (λ p e. front_short n p.0 (many_in stop one k p.1) (many_in_short stop one s k p.1 n (let l = s x p e in omega arith))))
+
+many_short : {A : Type 0} (stop : Text → Bool) (one : Text → Option (List A × Text)) → Shrinks one → (x : Text) (n : ℕ) → length x < n → Short n (many stop one x)
+unfolding many
+many_short stop one s x n h = many_in_short stop one s (suc (length x)) x n h
+
+drop_short : {A B : Type 0} (n : ℕ) (f : A × Text → B × Text) (o : Option (A × Text)) → ((p : A × Text) → (f p).1 ≡ drop 1 p.1) → Short n o → Short n (option_map f o)
+drop_short n f None e h = nothing
+drop_short n f (Some p) e (left l) = left (let q = ap length (e p) in let d = drop_less 1 n p.1 l in omega arith)
+
+start_short : (x : Text) (n : ℕ) → length x < n → Short n (name_start x)
+unfolding name_start
+start_short x n h = short_bind n n (if_part starts_name) (name_character x) (short_more (length x) n (name_character x) (name_character_short x) (omega arith)) (λ q k. short_if (starts_name q.0) (left k) nothing)
+
+name_short : (x : Text) (n : ℕ) → length x < n → Short n (name x)
+unfolding name name_parts
+name_short x n h =
+    drop_short n past_bracket _ (λ p. refl)
+    (short_bind n n (λ p. with_front p.0 (many (is_at 62) name_part p.1)) (name_start x) (start_short x n h) (λ p l. front_short n p.0 (many (is_at 62) name_part p.1) (many_short (is_at 62) name_part name_part_shrinks p.1 n l)))
+
+bracketed_short : (x : Text) (n : ℕ) → length x < n → Short n (bracketed x)
+unfolding bracketed
+bracketed_short x n h =
+    short_if (is_at 61 x) (left (drop_less 1 n x h))
+    (short_if (is_at 33 x) (left (drop_less 1 n x h)) (short_map n (λ p. opens (Mark.named p.0) p.1) (name x) (λ p. refl) (name_short x n h)))
+
+marked_short : (x : Text) (n : ℕ) → length x < n → Short n (marked x)
+unfolding marked flags
+marked_short x n h =
+    short_if (is_at 58 x) (left (drop_less 1 n x h))
+    (short_if (is_at 61 x) (left (drop_less 1 n x h))
+    (short_if (is_at 33 x) (left (drop_less 1 n x h))
+    (short_if (is_at 60 x) (bracketed_short (drop 1 x) n (drop_less 1 n x h)) (short_text n (opens Mark.modified) (flags_from false false false false x) (λ y. refl) (flags_short false false false false x n h)))))
+
+opening_short : (x : Text) (n : ℕ) → length x < n → Short n (opening x)
+unfolding opening
+opening_short x n h = short_if (is_at 63 x) (marked_short (drop 1 x) n (drop_less 1 n x h)) (left h)
+
+class_short : (wide : Bool) (x : Text) (n : ℕ) → length x < n → Short n (class_from wide x)
+unfolding class_from class_items
+class_short wide x n h =
+    short_if (is_at 94 x)
+    (drop_short n (class_token true) _ (λ p. refl) (many_short (is_at 93) (class_part wide) (class_part_shrinks wide) (drop 1 x) n (drop_less 1 n x h)))
+    (drop_short n (class_token false) _ (λ p. refl) (many_short (is_at 93) (class_part wide) (class_part_shrinks wide) x n h))
+
+back_name_short : (x : Text) (n : ℕ) → length x < n → Short n (back_name x)
+unfolding back_name
+back_name_short x n h = short_if (is_at 60 x) (short_map n leaf_of_name (name (drop 1 x)) (λ p. refl) (name_short (drop 1 x) n (drop_less 1 n x h))) nothing
+
+code_short : (c : ℕ) (x : Text) (n : ℕ) (o : Option Escape) → length x < n → Short n (escape_or_code c x o)
+code_short c x n (Some e) h = left h
+code_short c x n None h = short_map n leaf_of_code (character_escape c x) (λ p. refl) (character_short c x n h)
+
+escaped_short : (x : Text) (n : ℕ) → length x < n → Short n (escaped x)
+unfolding escaped digits
+escaped_short [] n h = nothing
+escaped_short (c ∷ x) n h =
+    let l : length x < n = omega arith in
+    short_if (c == 98) (left l)
+    (short_if (c == 66) (left l)
+    (short_if (c == 112) (short_text n _ (past_property x) (λ y. refl) (property_less x n l))
+    (short_if (c == 80) (short_text n _ (past_property x) (λ y. refl) (property_less x n l))
+    (short_if (c == 107) (back_name_short x n l)
+    (short_if (nat_le 49 c && nat_le c 57) (left (digits_short 0 (c ∷ x) n h)) (code_short c x n (class_escape c) l))))))
+
+token_short : (wide : Bool) (c : ℕ) (x : Text) (n : ℕ) → length x < n → Short n (token_from wide c x)
+unfolding token_from
+token_short wide c x n h =
+    short_if (c == 124) (left h)
+    (short_if (c == 40) (opening_short x n h)
+    (short_if (c == 41) (left h)
+    (short_if (c == 42) (left (quantifier_short (Count.number 0) None x n h))
+    (short_if (c == 43) (left (quantifier_short (Count.number 1) None x n h))
+    (short_if (c == 63) (left (quantifier_short (Count.number 0) (Some (Count.number 1)) x n h))
+    (short_if (c == 123) (braces_short x n h)
+    (short_if (c == 46) (left h)
+    (short_if (c == 94) (left h)
+    (short_if (c == 36) (left h)
+    (short_if (c == 91) (class_short wide x n h)
+    (short_if (c == 92) (escaped_short x n h)
+    (short_if (c == 93 || c == 125) (short_if wide (left h) nothing) (left h)))))))))))))
+
+pub reads_few : (wide : Bool) (x : Text) (ts : List Token) → Reads wide x ts → length ts ≤ length x
+reads_few wide x [] e = omega arith
+reads_few wide x (t ∷ ts) (c, after, rest, e, f, r) =
+    let l : length rest < suc (length after) = short_shrinks (suc (length after)) (token_from wide c after) (t, rest) (token_short wide c after (suc (length after)) (omega arith)) f in
+    let i : length ts ≤ length rest = reads_few wide rest ts r in
+    let k : length x ≡ suc (length after) = ap length e in
+    omega arith

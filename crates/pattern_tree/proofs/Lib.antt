@@ -1,0 +1,14 @@
+pub mod TextLemmas
+pub mod NumberLemmas
+pub mod ClassLemmas
+pub mod Sound
+pub mod Complete
+pub mod TestLaws
+pub mod NameLaws
+pub mod Leads
+pub mod NodeLemmas
+pub mod StepLemmas
+pub mod PlaceLaws
+pub mod Told
+pub mod FormLaws
+pub mod ReadLemmas

@@ -1,0 +1,62 @@
+//! `Pattern`: the tree of a pattern, node by node.
+
+ghost use Rattle.std.specs.Prelude.{◌≡◌, ◌<◌, length, map, option_map};
+ghost use Rattle.pattern_tree.specs.Nodes.{item_of};
+ghost use Rattle.pattern_tree.specs.Forms.{HasForm, tree_items, tree_name};
+ghost use Rattle.pattern_tree.specs.Patterns.{HasNode, node_tree, node_span, tree_of};
+
+use crate::class_item::ClassItem;
+use crate::form::{Form, NodeId};
+use crate::node::Node;
+use crate::span::Span;
+use crate::views::{form_of, items_of, name_of};
+
+/// The tree of a pattern. Its nodes stand in one vector, each after its parts, so that nothing here recurses.
+#[derive(Drop)]
+pub struct Pattern {
+    pub(crate) nodes: Vec<Node>,
+    pub(crate) root: u32,
+}
+
+impl Pattern {
+    /// The node of the whole pattern.
+    pub fn root(&self) -> NodeId
+        ensures { node_tree self.now result ≡ tree_of self.now }
+    {
+        NodeId(self.root)
+    }
+
+    /// Where the part of a node stands in the source, in bytes. A group has its parentheses, a repeat its quantifier. A
+    /// sequence and an either go from the start of their left part to the end of their right one, and an empty alternative is
+    /// the empty place where it stands.
+    pub fn span(&self, id: NodeId) -> Span
+        requires { HasNode self.now id }
+        ensures { result ≡ node_span self.now id }
+    {
+        self.nodes[id.0 as usize].span
+    }
+
+    /// What a node is.
+    pub fn form(&self, id: NodeId) -> Form
+        requires { HasNode self.now id }
+        ensures { HasForm result (node_tree self.now id) }
+    {
+        form_of(&self.nodes[id.0 as usize].shape)
+    }
+
+    /// The items of a class, in order; none for another node.
+    pub fn items(&self, id: NodeId) -> &[ClassItem]
+        requires { HasNode self.now id }
+        ensures { map item_of result.now ≡ tree_items (node_tree self.now id) }
+    {
+        items_of(&self.nodes[id.0 as usize].shape)
+    }
+
+    /// The name of a named group, or of a back-reference by name, with its escapes decoded; None for another node.
+    pub fn name(&self, id: NodeId) -> Option<&str>
+        requires { HasNode self.now id }
+        ensures { option_map (λ n. n.now) result ≡ tree_name (node_tree self.now id) }
+    {
+        name_of(&self.nodes[id.0 as usize].shape)
+    }
+}

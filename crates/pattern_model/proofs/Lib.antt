@@ -1,2 +1,3 @@
+pub mod PartTails
+pub mod TokenTails
 pub mod PartLaws
-pub mod TokenLengths

@@ -17,7 +17,7 @@ use Rattle.pattern_tree.specs.Nodes.{IsHigh}
 use Rattle.pattern_tree.proofs.Complete.{one_tree}
 use Rattle.pattern_tree.proofs.NameLaws.{named_again}
 use Rattle.pattern_tree.proofs.TestLaws.{captures_tokens, captures_few, numbers_tokens, numbers_append}
-use Rattle.pattern_model.proofs.TokenLengths.{reads_few}
+use Rattle.pattern_model.proofs.TokenTails.{reads_few}
 use Rattle.pattern_tree.proofs.Sound.{Fine, Goes, step_goes, Shaped, finished_shaped}
 
 -- cc takes no pair apart

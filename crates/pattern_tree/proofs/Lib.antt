@@ -9,6 +9,7 @@ pub mod Leads
 pub mod NodeLemmas
 pub mod StepLemmas
 pub mod PlaceLaws
+pub mod ScopeLaws
 pub mod Told
 pub mod FormLaws
 pub mod ReadLemmas

@@ -107,7 +107,7 @@ whole_names (Some d) (Some s) None h = let e : Some s ≡ None = h refl in cc
 whole_names (Some d) None (Some t) h = refl
 whole_names (Some d) (Some s) (Some t) h = refl
 
-inner_snoc : (xs : List Scope) (c : Scope) → inner_first (xs ++ (c ∷ [])) ≡ c ∷ inner_first xs
+pub inner_snoc : (xs : List Scope) (c : Scope) → inner_first (xs ++ (c ∷ [])) ≡ c ∷ inner_first xs
 inner_snoc [] c = refl
 inner_snoc (x ∷ xs) c = ap (λ z. z ++ (x ∷ [])) (inner_snoc xs c)
 
@@ -483,19 +483,3 @@ times_from p b d bf (Some t) os at end h le n e = go (can_repeat t) e
 
 pub take_times : (p : Places) (s : State) (b : Bounds) (at end : ℕ) → Placed p s at → at < end → Allows (Token.times b) s end p true
 take_times p s b at end h lt = (refl, λ n e. times_from p b s.here.done s.here.before s.here.last s.outer at end h (omega arith) n e)
-
--- the walk over the open groups
-pub last_scope : (xs : List Scope) (k j : ℕ) (c : Scope) → k ≡ j + 1 → j < length xs → c ≡ get_or xs j c → inner_first (take k xs) ≡ c ∷ inner_first (take j xs)
-last_scope xs k j c n h e =
-    let m : k ≡ suc j = omega arith in
-    ap inner_first (ap (λ z. take z xs) m ∙ (take-suc xs j c h ∙ ap (λ z. take j xs ++ (z ∷ [])) (sym e))) ∙ inner_snoc (take j xs) c
-
-pub live_here : (xs : List Scope) (k j : ℕ) (c : Scope) (alternative p : ℕ) (r : Bool) → k ≡ j + 1 → j < length xs → c ≡ get_or xs j c → c.start < p → lives alternative (inner_first (take k xs)) p ≡ r → nat_le alternative p ≡ r
-live_here xs k j c alternative p r n h e lt l =
-    let t : nat_lt c.start p ≡ true = grind (arith, nat_tests) in
-    sym (ap (λ z. lives alternative z p) (last_scope xs k j c n h e) ∙ ap (λ z. if z then nat_le alternative p else lives c.alternative (inner_first (take j xs)) p) t) ∙ l
-
-pub live_on : (xs : List Scope) (k j : ℕ) (c : Scope) (alternative p : ℕ) (r : Bool) → k ≡ j + 1 → j < length xs → c ≡ get_or xs j c → p ≤ c.start → lives alternative (inner_first (take k xs)) p ≡ r → lives c.alternative (inner_first (take j xs)) p ≡ r
-live_on xs k j c alternative p r n h e le l =
-    let t : nat_lt c.start p ≡ false = grind (arith, nat_tests) in
-    sym (ap (λ z. lives alternative z p) (last_scope xs k j c n h e) ∙ ap (λ z. if z then nat_le alternative p else lives c.alternative (inner_first (take j xs)) p) t) ∙ l

@@ -1,6 +1,7 @@
 -- Where the last group of each name begins, and what that tells of the names that a group can't have.
 use Rattle.std.specs.Prelude.{◌≡◌, ℕ, ◌+◌, ◌≤◌, Bool, true, false, ◌&&◌, ◌||◌, nat_le, nat_lt, List, [], ◌∷◌, ◌++◌, Option, Some, None, ◌⊎◌, if◌then◌else◌}
 use Rattle.std.specs.List.{list_all}
+use Rattle.std.specs.List.Sorted.{IsNonDecreasingBy}
 use Rattle.std.specs.Option.{is_some}
 use Rattle.std.specs.BTreeMap.{get_by_text}
 use Rattle.pattern_tree.specs.declared.places.Places.{Places}
@@ -43,6 +44,10 @@ module _ (place : Name → Option ℕ) where
   OuterPlaced [] [] = Unit {0}
   OuterPlaced (o ∷ os) (c ∷ cs) = FramePlaced (bottom cs) c.alternative c.start o.frame o.mark × OuterPlaced os cs
   OuterPlaced _ _ = ⊥
+
+-- the groups stand in the order in which they begin
+abbrev pub StartsRise : List Scope → Type 0
+StartsRise cs = IsNonDecreasingBy (λ c. c.start) cs
 
 -- the innermost first
 abbrev pub inner_first : List Scope → List Scope

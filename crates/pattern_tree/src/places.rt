@@ -1,12 +1,13 @@
 //! Where the groups of each name begin, and which names a group may not have.
 
-ghost use Rattle.std.specs.Prelude.{◌≡◌, ◌+◌, ◌<◌, ◌≤◌, ◌^◌, ◌&&◌, ℕ, [], ◌∷◌, ◌++◌, map, nat_le, length, IfOk, OnOk, string_bytes, MatchOption, List, Bool, not, Some, true};
+ghost use Rattle.std.specs.Prelude.{◌≡◌, ◌+◌, ◌<◌, ◌≤◌, ◌^◌, ◌&&◌, ℕ, [], ◌∷◌, ◌++◌, map, nat_le, length, IfOk, OnOk, string_bytes, MatchOption, List, Bool, not, Some, true, false, nat_lt};
 ghost use Rattle.pattern_tree.specs.TokenTests.{token_captures, token_numbers, token_references};
 ghost use Rattle.pattern_model.specs.BackReferences.{in_number, in_names};
 ghost use Rattle.pattern_model.specs.Tree as tree;
 ghost use Rattle.pattern_tree.specs.Machine.{State};
 ghost use Rattle.pattern_tree.specs.Nodes.{token_of, mark_of, leaf_of};
-ghost use Rattle.pattern_tree.specs.Places.{Placed, Allows, Popped, has_all, place_of, inner_first, lives, taken};
+ghost use Rattle.pattern_tree.specs.Places.{Placed, Allows, Popped, has_all, place_of, inner_first, lives, taken, StartsRise};
+ghost use Rattle.std.specs.List.Sorted.{IsPartitionPoint};
 ghost use Rattle.pattern_model.specs.SharedNames.{mark_names};
 ghost use Rattle.std.specs.Str.{bytes_eq};
 ghost use Rattle.std.specs.Map.{update};
@@ -44,26 +45,33 @@ fn name_of(mark: &Mark) -> Option<&str>
     }
 }
 
+/// How many of the open groups begin before the place.
+fn begun_before(outer: &[Scope], place: usize) -> usize
+    requires { StartsRise outer.now }
+    ensures len { result ≤ length outer.now }
+    ensures point { IsPartitionPoint (λ s. nat_lt s.start place ≡ true) (λ s. nat_lt s.start place ≡ false) outer.now result }
+{
+    outer.partition_point(|scope| scope.start < place)
+}
+
 impl Places {
-    /// Whether a group that began at the place stands in the alternative that is open, or in one of those around it.
+    /// Whether a group that began at the place stands in the alternative that is open, or in one of those around it. Groups
+    /// open one after the other, so the innermost that is around the place is found by halves.
     fn is_live(&self, place: usize) -> bool
+        requires { StartsRise self.now.outer.items }
         ensures { result ≡ lives self.now.alternative (inner_first self.now.outer.items) place }
     {
-        let mut alternative = self.alternative;
-        let mut depth = self.outer.len();
-        while depth > 0 {
-            let scope = self.outer[depth - 1];
-            if scope.start < place {
-                return alternative <= place;
-            }
-            alternative = scope.alternative;
-            depth -= 1;
+        let around = begun_before(&self.outer, place);
+        if around < self.outer.len() {
+            self.outer[around].alternative <= place
+        } else {
+            self.alternative <= place
         }
-        alternative <= place
     }
 
     /// Whether a group beside the place has the name.
     fn is_taken(&self, name: &str) -> bool
+        requires { StartsRise self.now.outer.items }
         ensures { result ≡ taken self.now name.now }
     {
         match self.latest.get(name).copied() {
@@ -74,6 +82,7 @@ impl Places {
 
     /// Takes a group's name: false where a group beside it has the name.
     fn name(&mut self, alloc: Global, name: &str, start: usize) -> Result<bool, AllocError>
+        requires { StartsRise self.old.outer.items }
         ensures free { IfOk result (λ yes. yes ≡ not (taken self.old name.now)) }
         ensures place { IfOk result (λ yes. yes ≡ true → (q : List ℕ) → place_of self.new q ≡ update bytes_eq (place_of self.old) name.now (Some start) q) }
         ensures outer { OnOk result (self.new.outer ≡ self.old.outer) }
@@ -107,7 +116,8 @@ impl Places {
         start: usize,
         end: usize,
     ) -> Result<bool, AllocError>
-        requires { start < end }
+        requires from { start < end }
+        requires rise { StartsRise self.old.outer.items }
         ensures { IfOk result (λ yes. (s : State) → Placed self.old s start → Allows (tree.Token.opens (mark_of mark.now)) s end self.new yes) }
     {
         match name_of(mark) {
@@ -142,7 +152,8 @@ impl Places {
         start: usize,
         end: usize,
     ) -> Result<bool, AllocError>
-        requires { start < end }
+        requires from { start < end }
+        requires rise { StartsRise self.old.outer.items }
         ensures { IfOk result (λ yes. (s : State) → Placed self.old s start → Allows (token_of token.now) s end self.new yes) }
     {
         match token {

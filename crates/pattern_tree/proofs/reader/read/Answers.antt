@@ -6,6 +6,7 @@ use Rattle.pattern_tree.proofs.Leads.{Leads, leads_first}
 use Rattle.pattern_tree.proofs.Sound.{Goes, step_goes}
 use Rattle.pattern_tree.proofs.Told.{Told, told_more}
 use Rattle.pattern_tree.proofs.ReadLemmas.{ended_some, ended_none, failed, no_token, no_name, no_step, one_step, may_stand, goes, few_chars, begun, told_first}
+use Rattle.pattern_tree.proofs.ScopeLaws.{starts_rise}
 use Rattle.pattern_tree.proofs.TestLaws.{captures_one}
 use Rattle.pattern_tree.proofs.PlaceLaws.{placed_first}
 use Rattle.pattern_tree.proofs.reader.read.Goals as goal
@@ -24,6 +25,9 @@ loop-c-init c =
       groups = omega arith;
       placed = placed_first c.new-2.result c.new-3.result _ _ c.new-2.ensures.empty c.new-3.ensures.items b;
     }
+
+pub take-requires-in-Some-clause-rise : goal.take-requires-in-Some-clause-rise
+take-requires-in-Some-clause-rise c = starts_rise c.loop-c.places (state_of c.loop-c.reader) _ c.loop-c.invariant.placed
 
 pub returns-in_default-read-clause-none : goal.returns-in_default-read-clause-none
 returns-in_default-read-clause-none c =

@@ -1,4 +1,3 @@
-use Rattle.std.specs.Prelude.{option_map}
 use Rattle.pattern_tree.specs.Forms.{tree_name}
 use Rattle.pattern_tree.proofs.FormLaws.{fact_at}
 use Rattle.pattern_tree.proofs.pattern.Pattern.name.Goals as goal

@@ -13,3 +13,4 @@ pub mod Tokens
 pub mod SharedNames
 pub mod BackReferences
 pub mod Grammar
+pub mod Spans

@@ -11,5 +11,7 @@ pub mod StepLemmas
 pub mod PlaceLaws
 pub mod ScopeLaws
 pub mod Told
+pub mod SpanSteps
+pub mod SpanReader
 pub mod FormLaws
 pub mod ReadLemmas

@@ -68,24 +68,32 @@ grown_adds : (ns : List Node) (ts : List Tree) → Adds ts (grown ts ns)
 grown_adds [] ts = adds_none ts
 grown_adds (n ∷ ns) ts = adds_twice ts (ts ++ (built ts n.shape ∷ [])) _ (built ts n.shape ∷ [], refl) (grown_adds ns (ts ++ (built ts n.shape ∷ [])))
 
--- the shape at a place tells the outermost form of its tree
-grown_at : (ns : List Node) (ts : List Tree) (i : ℕ) (d : Node) → i < length ns → (us : List Tree) × (tree_at (grown ts ns) (length ts + i) ≡ built us (get_or ns i d).shape)
+-- the shape at a place tells its tree, over the trees before it
+grown_at : (ns : List Node) (ts : List Tree) (i : ℕ) (d : Node) → i < length ns →
+    (us : List Tree) × (length us ≡ length ts + i) × Adds us (grown ts ns) × (tree_at (grown ts ns) (length ts + i) ≡ built us (get_or ns i d).shape)
 grown_at [] ts i d h = absurd (omega arith)
 grown_at (n ∷ ns) ts zero d h =
     let t = built ts n.shape in
     let one : length (ts ++ (t ∷ [])) ≡ length ts + 1 = omega (arith, length-append ts (t ∷ [])) in
     let a : Adds (ts ++ (t ∷ [])) (grown (ts ++ (t ∷ [])) ns) = grown_adds ns (ts ++ (t ∷ [])) in
-    let e : length ts + 0 ≡ length ts = omega arith in
-    (ts, ap (tree_at (grown (ts ++ (t ∷ [])) ns)) e ∙ (tree_at_adds (ts ++ (t ∷ [])) _ (length ts) a (omega arith) ∙ tree_at_new ts t))
+    let e : length ts + 0 ≡ length ts = omega arith in (
+      ts,
+      omega arith,
+      adds_twice ts (ts ++ (t ∷ [])) _ (t ∷ [], refl) a,
+      ap (tree_at (grown (ts ++ (t ∷ [])) ns)) e ∙ (tree_at_adds (ts ++ (t ∷ [])) _ (length ts) a (omega arith) ∙ tree_at_new ts t),
+    )
 grown_at (n ∷ ns) ts (suc i) d h =
     let t = built ts n.shape in
     let e : length ts + suc i ≡ length (ts ++ (t ∷ [])) + i = omega (arith, length-append ts (t ∷ [])) in
-    let (us, f) = grown_at ns (ts ++ (t ∷ [])) i d (omega arith) in
-    (us, ap (tree_at (grown (ts ++ (t ∷ [])) ns)) e ∙ f)
+    let (us, l, a, f) = grown_at ns (ts ++ (t ∷ [])) i d (omega arith) in
+    (us, l ∙ sym e, a, ap (tree_at (grown (ts ++ (t ∷ [])) ns)) e ∙ f)
 
-pub shape_at : (ns : List Node) (i : ℕ) (d : Node) → i < length ns → (us : List Tree) × (tree_at (trees_of ns) i ≡ built us (get_or ns i d).shape)
+pub shape_at : (ns : List Node) (i : ℕ) (d : Node) → i < length ns →
+    (us : List Tree) × (length us ≡ i) × Adds us (trees_of ns) × (tree_at (trees_of ns) i ≡ built us (get_or ns i d).shape)
 unfolding trees_of
-shape_at ns i d h = let e : i ≡ 0 + i = omega arith in let (us, f) = grown_at ns [] i d h in (us, ap (tree_at (grown [] ns)) e ∙ f)
+shape_at ns i d h =
+    let e : i ≡ 0 + i = omega arith in
+    let (us, l, a, f) = grown_at ns [] i d h in (us, l ∙ sym e, a, ap (tree_at (grown [] ns)) e ∙ f)
 
 pub extended : (old new : List Node) (p : Part) (last before id : ℕ) → Adds (trees_of old) (trees_of new) →
     tree_at (trees_of new) before ≡ joined (opt_tree (trees_of old) p.before) (tree_at (trees_of old) last) →
@@ -101,7 +109,7 @@ extended old new p last before id a e is fine h =
     ∙ ap (λ z. record { done = opt_tree (trees_of old) p.done; before = pushed_before (opt_tree (trees_of old) p.before) (opt_tree (trees_of old) z); last = Some (tree_at (trees_of old) id) }) (sym is)))
 
 pub can_repeat_at : (ns : List Node) (i : ℕ) (d : Node) (r : Bool) → i < length ns → ((us : List Tree) → r ≡ can_repeat (built us (get_or ns i d).shape)) → r ≡ can_repeat (tree_at (trees_of ns) i)
-can_repeat_at ns i d r h f = let (us, e) = shape_at ns i d h in f us ∙ sym (ap can_repeat e)
+can_repeat_at ns i d r h f = let (us, l, a, e) = shape_at ns i d h in f us ∙ sym (ap can_repeat e)
 
 outer_old : (old new : List Tree) (o : Open) → Adds old new → InPart (length old) o.part → outer1 new o ≡ outer1 old o
 outer_old old new o a h = ap (λ z. record { mark = mark_of o.mark; frame = z }) (frame_adds old new o.part a h)

@@ -101,11 +101,8 @@ unfoldable pub trees_of : List Node → List Tree
 trees_of ns = grown [] ns
 
 -- the place of a node in the source
-abbrev pub node_span_of : Node → Span
-node_span_of n = n.span
-
 abbrev pub span_at : List Node → ℕ → Span
-span_at ns i = slice_index_or (map node_span_of ns) i (record { start = 0; end = 0 })
+span_at ns i = (slice_index_or ns i (record { shape = shapes.Empty; span = record { start = 0; end = 0 } })).span
 
 abbrev pub opt_tree : List Tree → Option ℕ → Option Tree
 opt_tree ts o = option_map (λ i. tree_at ts i) o

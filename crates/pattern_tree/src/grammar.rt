@@ -4,7 +4,7 @@ ghost use Rattle.std.specs.Prelude.{◌<◌, ◌^◌, length, IfOk, IfSome, IfNo
 ghost use Rattle.std.specs.Str.{chars};
 ghost use Rattle.pattern_model.specs.Tree.{Tree};
 ghost use Rattle.pattern_model.specs.Grammar.{Grammar};
-ghost use Rattle.pattern_tree.specs.Patterns.{tree_of};
+ghost use Rattle.pattern_tree.specs.Patterns.{tree_of, SpansStand};
 
 use crate::out_of_memory::OutOfMemory;
 use crate::pattern::Pattern;
@@ -17,6 +17,7 @@ use std::alloc::Global;
 pub fn read_ecma(alloc: Global, pattern: &str) -> Result<Option<Pattern>, OutOfMemory>
     requires { length pattern.now < 2 ^ 30 }
     ensures some { IfOk result (λ o. IfSome o (λ p. Grammar false (chars pattern.now) (tree_of p))) }
+    ensures spans { IfOk result (λ o. IfSome o (λ p. SpansStand false (chars pattern.now) p (length pattern.now))) }
     ensures none { IfOk result (λ o. IfNone o ((t : Tree) → Grammar false (chars pattern.now) t → ⊥)) }
 {
     Ok(read(alloc, false, pattern)?)
@@ -28,6 +29,7 @@ pub fn read_ecma(alloc: Global, pattern: &str) -> Result<Option<Pattern>, OutOfM
 pub fn read_widened(alloc: Global, pattern: &str) -> Result<Option<Pattern>, OutOfMemory>
     requires { length pattern.now < 2 ^ 30 }
     ensures some { IfOk result (λ o. IfSome o (λ p. Grammar true (chars pattern.now) (tree_of p))) }
+    ensures spans { IfOk result (λ o. IfSome o (λ p. SpansStand true (chars pattern.now) p (length pattern.now))) }
     ensures none { IfOk result (λ o. IfNone o ((t : Tree) → Grammar true (chars pattern.now) t → ⊥)) }
 {
     Ok(read(alloc, true, pattern)?)

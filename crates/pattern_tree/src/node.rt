@@ -3,7 +3,8 @@
 ghost use Rattle.std.specs.Prelude.{◌≡◌, ◌+◌, ◌<◌, ◌≤◌, ◌^◌, [], ◌∷◌, ◌++◌, length, vec_len, IfOk, OnOk, List};
 ghost use Rattle.pattern_model.specs.Tree.{Tree};
 ghost use Rattle.pattern_tree.specs.Machine.{joined, alternative_of, whole, push, can_repeat};
-ghost use Rattle.pattern_tree.specs.Nodes.{trees_of, tree_at, built, frame_of, InPart, Adds, opt_tree, InOption};
+ghost use Rattle.pattern_tree.specs.Parts.{with_node, between_nodes};
+ghost use Rattle.pattern_tree.specs.Nodes.{span_at, trees_of, tree_at, built, frame_of, InPart, Adds, opt_tree, InOption};
 
 use crate::class_item::{ClassEscape, ClassItem};
 use crate::form::Count;
@@ -71,6 +72,7 @@ fn append(nodes: &mut Vec<Node>, shape: Shape, span: Span) -> Result<u32, AllocE
     ensures trees { IfOk result (λ id. trees_of nodes.new.items ≡ trees_of nodes.old.items ++ (built (trees_of nodes.old.items) shape ∷ [])) }
     ensures id { IfOk result (λ id. id ≡ length nodes.old.items) }
     ensures len { IfOk result (λ id. length nodes.new.items ≡ length nodes.old.items + 1) }
+    ensures nodes { IfOk result (λ id. with_node nodes.old.items shape span ≡ (nodes.new.items, id)) }
 {
     let id = nodes.len() as u32;
     nodes.push(Node { shape, span })?;
@@ -84,6 +86,7 @@ pub fn add(nodes: &mut Vec<Node>, shape: Shape, span: Span) -> Result<u32, Alloc
     ensures tree { IfOk result (λ id. tree_at (trees_of nodes.new.items) id ≡ built (trees_of nodes.old.items) shape) }
     ensures id { IfOk result (λ id. id < length nodes.new.items) }
     ensures len { OnOk result (length nodes.new.items ≡ length nodes.old.items + 1) }
+    ensures nodes { IfOk result (λ id. with_node nodes.old.items shape span ≡ (nodes.new.items, id)) }
 {
     let id = append(nodes, shape, span)?;
     Ok(id)
@@ -93,6 +96,7 @@ pub fn add(nodes: &mut Vec<Node>, shape: Shape, span: Span) -> Result<u32, Alloc
 pub fn from_to(nodes: &[Node], left: u32, right: u32) -> Span
     requires left { left < length nodes.now }
     requires right { right < length nodes.now }
+    ensures { result ≡ between_nodes nodes.now left right }
 {
     Span {
         start: nodes[left as usize].span.start,
@@ -133,6 +137,7 @@ pub fn can_repeat(nodes: &[Node], id: u32) -> bool
 /// Where the node begins.
 pub fn start_of(nodes: &[Node], id: u32) -> usize
     requires { id < length nodes.now }
+    ensures { result ≡ (span_at nodes.now id).start }
 {
     nodes[id as usize].span.start
 }

@@ -1,8 +1,9 @@
 //! A disjunction while it is read.
 
-ghost use Rattle.std.specs.Prelude.{◌≡◌, ◌+◌, ◌<◌, ◌≤◌, ◌^◌, [], ◌∷◌, ◌++◌, length, vec_len, IfOk, OnOk, List};
+ghost use Rattle.std.specs.Prelude.{◌≡◌, ◌+◌, ◌<◌, ◌≤◌, ◌^◌, [], ◌∷◌, ◌++◌, length, vec_len, IfOk, OnOk, List, Some};
 ghost use Rattle.pattern_model.specs.Tree.{Tree};
 ghost use Rattle.pattern_tree.specs.Machine.{joined, alternative_of, whole, push, can_repeat};
+ghost use Rattle.pattern_tree.specs.Parts.{with_term, with_alternative, with_disjunction, with_last};
 ghost use Rattle.pattern_tree.specs.Nodes.{trees_of, tree_at, built, frame_of, InPart, Adds, opt_tree, InOption};
 
 use crate::node::{Node, Shape, add, from_to};
@@ -27,6 +28,7 @@ pub fn join(nodes: &mut Vec<Node>, before: Option<u32>, last: u32) -> Result<u32
     ensures id { IfOk result (λ id. id < length nodes.new.items) }
     ensures len { OnOk result (length nodes.old.items ≤ length nodes.new.items) }
     ensures few { OnOk result (length nodes.new.items ≤ length nodes.old.items + 1) }
+    ensures nodes { IfOk result (λ id. with_term nodes.old.items before last ≡ (nodes.new.items, id)) }
 {
     match before {
         None => Ok(last),
@@ -52,6 +54,7 @@ pub fn alternative(
     ensures id { IfOk result (λ id. id < length nodes.new.items) }
     ensures len { OnOk result (length nodes.old.items ≤ length nodes.new.items) }
     ensures few { OnOk result (length nodes.new.items ≤ length nodes.old.items + 1) }
+    ensures nodes { IfOk result (λ id. with_alternative nodes.old.items before last end ≡ (nodes.new.items, id)) }
 {
     match last {
         None => add(nodes, Shape::Empty, Span { start: end, end }),
@@ -69,6 +72,7 @@ pub fn close(nodes: &mut Vec<Node>, part: Part, end: usize) -> Result<u32, Alloc
     ensures id { IfOk result (λ id. id < length nodes.new.items) }
     ensures len { OnOk result (length nodes.old.items ≤ length nodes.new.items) }
     ensures few { OnOk result (length nodes.new.items ≤ length nodes.old.items + 2) }
+    ensures nodes { IfOk result (λ id. with_disjunction nodes.old.items part end ≡ (nodes.new.items, id)) }
 {
     let right = alternative(nodes, part.before, part.last, end)?;
     match part.done {
@@ -91,6 +95,9 @@ pub fn extend(nodes: &mut Vec<Node>, part: Part, id: u32) -> Result<Part, AllocE
     ensures part { IfOk result (λ p. InPart (length nodes.new.items) p) }
     ensures len { OnOk result (length nodes.old.items ≤ length nodes.new.items) }
     ensures few { OnOk result (length nodes.new.items ≤ length nodes.old.items + 1) }
+    ensures nodes { IfOk result (λ p. with_last nodes.old.items part.before part.last ≡ (nodes.new.items, p.before)) }
+    ensures done { IfOk result (λ p. p.done ≡ part.done) }
+    ensures last { IfOk result (λ p. p.last ≡ Some id) }
 {
     let before = match part.last {
         None => part.before,

@@ -1,9 +1,7 @@
 //! `Pattern`: the tree of a pattern, node by node.
 
-ghost use Rattle.std.specs.Prelude.{◌≡◌, ◌<◌, length, map, option_map};
-ghost use Rattle.pattern_tree.specs.Nodes.{item_of};
-ghost use Rattle.pattern_tree.specs.Forms.{HasForm, tree_items, tree_name};
-ghost use Rattle.pattern_tree.specs.Patterns.{HasNode, node_tree, node_span, tree_of};
+ghost use Rattle.std.specs.Prelude.{◌≡◌, ◌<◌, length, true};
+ghost use Rattle.pattern_tree.specs.Below.{all_below};
 
 use crate::class_item::ClassItem;
 use crate::form::{Form, NodeId};
@@ -16,12 +14,20 @@ use crate::views::{form_of, items_of, name_of};
 pub struct Pattern {
     pub(crate) nodes: Vec<Node>,
     pub(crate) root: u32,
+    ghost after_parts: { all_below 0 nodes.items ≡ true },
+    ghost has_root: { root < length nodes.items },
 }
 
 impl Pattern {
+    ghost use Rattle.std.specs.Prelude.{◌≡◌, map, option_map};
+    ghost use Rattle.pattern_tree.specs.Nodes.{item_of};
+    ghost use Rattle.pattern_tree.specs.Forms.{IsForm, tree_items, tree_name};
+    ghost use Rattle.pattern_tree.specs.Patterns.{HasNode, node_tree, node_span, tree_of};
+
     /// The node of the whole pattern.
     pub fn root(&self) -> NodeId
-        ensures { node_tree self.now result ≡ tree_of self.now }
+        ensures node { HasNode self.now result }
+        ensures tree { node_tree self.now result ≡ tree_of self.now }
     {
         NodeId(self.root)
     }
@@ -36,10 +42,10 @@ impl Pattern {
         self.nodes[id.0 as usize].span
     }
 
-    /// What a node is.
+    /// What a node is. Its parts are nodes too, with lower numbers.
     pub fn form(&self, id: NodeId) -> Form
         requires { HasNode self.now id }
-        ensures { HasForm result (node_tree self.now id) }
+        ensures { IsForm self.now id result }
     {
         form_of(&self.nodes[id.0 as usize].shape)
     }

@@ -1,6 +1,6 @@
 //! Reads a pattern from left to right, with a list of open groups.
 
-ghost use Rattle.std.specs.Prelude.{◌≡◌, ◌+◌, ◌<◌, ◌≤◌, ◌^◌, [], ◌∷◌, ◌++◌, length, vec_len, IfOk, OnOk, IfSome, IfNone, None, option_map, map, nat_le, ◌&&◌, string_bytes, if◌then◌else◌};
+ghost use Rattle.std.specs.Prelude.{◌≡◌, ◌+◌, ◌<◌, ◌≤◌, ◌^◌, [], ◌∷◌, ◌++◌, length, vec_len, IfOk, OnOk, IfSome, IfNone, None, option_map, map, nat_le, ◌&&◌, string_bytes, if◌then◌else◌, ℕ, Bool, true};
 ghost use Rattle.pattern_model.specs.Tree as tree;
 ghost use Rattle.std.specs.Str.{chars};
 ghost use Rattle.pattern_tree.specs.Machine.{step, finished};
@@ -8,7 +8,9 @@ ghost use Rattle.pattern_model.specs.Tokens.{token_from};
 ghost use Rattle.pattern_model.specs.Grammar.{Grammar};
 ghost use Rattle.pattern_tree.specs.Places.{has_all};
 ghost use Rattle.pattern_tree.specs.Nodes.{trees_of, state_of, InReader, token_of, StepsTo, Moves, mark_of, leaf_of, bounds_of};
-ghost use Rattle.pattern_tree.specs.Patterns.{tree_of};
+ghost use Rattle.pattern_tree.specs.Spans.{ReaderStands, StandsOn};
+ghost use Rattle.pattern_tree.specs.Patterns.{tree_of, SpansStand};
+ghost use Rattle.pattern_model.specs.Text.{Text};
 
 use crate::counters::Counters;
 use crate::node::{Counts, Mark, Node, Shape, Single, add, can_repeat, start_of};
@@ -39,7 +41,8 @@ impl Reader {
     fn single(&mut self, single: Single, span: Span) -> Result<(), AllocError>
         requires room { length self.old.nodes.items + 4 ≤ 2 ^ 32 }
         requires inside { InReader self.old }
-        ensures { OnOk result (StepsTo (tree.Token.leaf (leaf_of single)) self.old self.new) }
+        ensures step { OnOk result (StepsTo (tree.Token.leaf (leaf_of single)) self.old self.new) }
+        ensures stands { OnOk result (StandsOn (tree.Token.leaf (leaf_of single)) span.start span.end self.old self.new) }
     {
         let id = add(&mut self.nodes, Shape::Single(single), span)?;
         self.here = extend(&mut self.nodes, self.here, id)?;
@@ -48,7 +51,8 @@ impl Reader {
 
     fn open(&mut self, mark: Mark, start: usize) -> Result<(), AllocError>
         requires inside { InReader self.old }
-        ensures { OnOk result (StepsTo (tree.Token.opens (mark_of mark)) self.old self.new) }
+        ensures step { OnOk result (StepsTo (tree.Token.opens (mark_of mark)) self.old self.new) }
+        ensures stands { OnOk result ((end : ℕ) → StandsOn (tree.Token.opens (mark_of mark)) start end self.old self.new) }
     {
         self.outer.push(Open {
             mark,
@@ -66,7 +70,8 @@ impl Reader {
     fn bar(&mut self, start: usize) -> Result<(), AllocError>
         requires room { length self.old.nodes.items + 4 ≤ 2 ^ 32 }
         requires inside { InReader self.old }
-        ensures { OnOk result (StepsTo tree.Token.bar self.old self.new) }
+        ensures step { OnOk result (StepsTo tree.Token.bar self.old self.new) }
+        ensures stands { OnOk result ((end : ℕ) → StandsOn tree.Token.bar start end self.old self.new) }
     {
         let id = close(&mut self.nodes, self.here, start)?;
         self.here = Part {
@@ -80,7 +85,8 @@ impl Reader {
     fn close(&mut self, span: Span) -> Result<bool, AllocError>
         requires room { length self.old.nodes.items + 4 ≤ 2 ^ 32 }
         requires inside { InReader self.old }
-        ensures { IfOk result (λ yes. Moves tree.Token.closes self.old self.new yes) }
+        ensures step { IfOk result (λ yes. Moves tree.Token.closes self.old self.new yes) }
+        ensures stands { IfOk result (λ yes. yes ≡ true → StandsOn tree.Token.closes span.start span.end self.old self.new) }
     {
         let Some(open) = self.outer.pop() else {
             return Ok(false);
@@ -99,7 +105,8 @@ impl Reader {
     fn times(&mut self, counts: Counts, end: usize) -> Result<bool, AllocError>
         requires room { length self.old.nodes.items + 4 ≤ 2 ^ 32 }
         requires inside { InReader self.old }
-        ensures { IfOk result (λ yes. Moves (tree.Token.times (bounds_of counts)) self.old self.new yes) }
+        ensures step { IfOk result (λ yes. Moves (tree.Token.times (bounds_of counts)) self.old self.new yes) }
+        ensures stands { IfOk result (λ yes. yes ≡ true → (start : ℕ) → StandsOn (tree.Token.times (bounds_of counts)) start end self.old self.new) }
     {
         let Some(id) = self.here.last else {
             return Ok(false);
@@ -123,7 +130,8 @@ impl Reader {
     fn step(&mut self, token: Token, span: Span) -> Result<bool, AllocError>
         requires room { length self.old.nodes.items + 4 ≤ 2 ^ 32 }
         requires inside { InReader self.old }
-        ensures { IfOk result (λ yes. Moves (token_of token) self.old self.new yes) }
+        ensures step { IfOk result (λ yes. Moves (token_of token) self.old self.new yes) }
+        ensures stands { IfOk result (λ yes. yes ≡ true → StandsOn (token_of token) span.start span.end self.old self.new) }
     {
         match token {
             Token::Single(single) => {
@@ -147,8 +155,9 @@ impl Reader {
 fn finish(mut reader: Reader, end: usize) -> Result<Option<Pattern>, AllocError>
     requires room { length reader.nodes.items + 4 ≤ 2 ^ 32 }
     requires inside { InReader reader }
+    requires stands { (wide : Bool) × (x : Text) × ReaderStands wide x reader end }
     ensures tree { IfOk result (λ o. finished (state_of reader).here (state_of reader).outer ≡ option_map tree_of o) }
-    ensures root { IfOk result (λ o. IfSome o (λ p. p.root < length p.nodes.items)) }
+    ensures spans { IfOk result (λ o. IfSome o (λ p. (wide : Bool) (x : Text) → ReaderStands wide x reader end → SpansStand wide x p end)) }
 {
     if reader.outer.len() > 0 {
         return Ok(None);
@@ -171,7 +180,7 @@ fn are_met(counters: Counters, places: &Places) -> bool
 pub fn read(alloc: Global, wide: bool, text: &str) -> Result<Option<Pattern>, AllocError>
     requires { length text.now < 2 ^ 30 }
     ensures some { IfOk result (λ o. IfSome o (λ p. Grammar wide (chars text.now) (tree_of p))) }
-    ensures root { IfOk result (λ o. IfSome o (λ p. p.root < length p.nodes.items)) }
+    ensures spans { IfOk result (λ o. IfSome o (λ p. SpansStand wide (chars text.now) p (length text.now))) }
     ensures none { IfOk result (λ o. IfNone o ((t : tree.Tree) → Grammar wide (chars text.now) t → ⊥)) }
 {
     let total = text.len();

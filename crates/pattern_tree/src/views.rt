@@ -3,7 +3,7 @@
 ghost use Rattle.std.specs.Prelude.{◌≡◌, List, map, option_map};
 ghost use Rattle.pattern_model.specs.Tree as tree;
 ghost use Rattle.pattern_tree.specs.Nodes.{built, mark_of, leaf_of, item_of};
-ghost use Rattle.pattern_tree.specs.Forms.{kind_of, HasForm, leaf_items, tree_items, mark_name, leaf_name, tree_name};
+ghost use Rattle.pattern_tree.specs.Forms.{kind_of, single_form, shape_form, leaf_items, tree_items, mark_name, leaf_name, tree_name};
 
 use crate::class_item::ClassItem;
 use crate::form::{Form, GroupMark, NodeId};
@@ -25,7 +25,7 @@ fn mark_form(mark: &Mark) -> GroupMark
 }
 
 fn single_form(single: &Single) -> Form
-    ensures { HasForm result (tree.leaf (leaf_of single.now)) }
+    ensures { result ≡ single_form single.now }
 {
     match single {
         Single::Code(c) => Form::Code(*c),
@@ -43,7 +43,7 @@ fn single_form(single: &Single) -> Form
 }
 
 pub(crate) fn form_of(shape: &Shape) -> Form
-    ensures { (ts : List tree.Tree) → HasForm result (built ts shape.now) }
+    ensures { result ≡ shape_form shape.now }
 {
     match shape {
         Shape::Empty => Form::Empty,

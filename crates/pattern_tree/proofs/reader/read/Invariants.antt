@@ -4,6 +4,8 @@ use denote.Shadow.{shadow}
 use Rattle.std.specs.Str.{chars}
 use Rattle.pattern_tree.specs.Machine.{spelled}
 use Rattle.pattern_tree.specs.Nodes.{state_of, InReader}
+use Rattle.pattern_model.specs.Spans.{IsAfter}
+use Rattle.pattern_tree.specs.Spans.{ReaderStands}
 use Rattle.pattern_tree.specs.Places.{Placed}
 use Rattle.pattern_tree.proofs.Leads.{Leads}
 use Rattle.pattern_tree.proofs.Told.{Told}
@@ -19,6 +21,8 @@ invariant-loop-c l = record {
   total : l.total ≡ length l.text;
   told : Told l.counters (spelled (state_of l.reader));
   groups : l.counters.groups + length l.rest ≤ length l.text;
+  after : IsAfter (chars l.text) (l.total - length l.rest) (chars l.rest);
+  stands : ReaderStands l.wide (chars l.text) l.reader (l.total - length l.rest);
   placed : Placed l.places (state_of l.reader) (l.total - length l.rest);
 }
 

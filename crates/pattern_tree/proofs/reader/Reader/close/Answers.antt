@@ -4,7 +4,13 @@ use Rattle.pattern_model.specs.Tree.{group}
 use Rattle.pattern_tree.specs.Nodes.{mark_of, InOuter}
 use Rattle.pattern_tree.proofs.NodeLemmas.{adds_twice, in_outer_front, in_part_more}
 use Rattle.pattern_tree.proofs.StepLemmas.{closes}
+use Rattle.pattern_tree.proofs.SpanReader.{close_stands}
 use Rattle.pattern_tree.proofs.reader.Reader.close.Goals as goal
+
+pub returns-clause-stands : goal.returns-clause-stands
+returns-clause-stands c = λ yes wide x r t.
+    close_stands wide x c.args.self.now _ c.in-Some.open _ c.add.new.nodes.items c.in_ok-inner.inner c.in_ok-id.id c.args.span c.requires.inside
+    c.in-Some.ensures.items c.in_ok-inner.ensures.nodes c.in_ok-id.ensures.nodes c.in_ok-self.ensures.nodes c.in_ok-self.ensures.done c.in_ok-self.ensures.last r t
 
 pub extend-requires-clause-part : goal.extend-requires-clause-part
 extend-requires-clause-part c =
@@ -12,8 +18,8 @@ extend-requires-clause-part c =
     let split = in_outer_front n c.pop.new.self.items c.in-Some.open (subst (InOuter n) c.in-Some.ensures.items c.requires.inside.outer) in
     in_part_more n _ c.in-Some.open.part (omega (arith, c.in_ok-inner.ensures.len, c.in_ok-id.ensures.len)) split.1
 
-pub returns : goal.returns
-returns c =
+pub returns-clause-step : goal.returns-clause-step
+returns-clause-step c =
     let a = c.in_ok-inner.ensures in
     let b = c.in_ok-id.ensures in
     let d = c.in_ok-self.ensures in

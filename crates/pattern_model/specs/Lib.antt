@@ -14,3 +14,4 @@ pub mod SharedNames
 pub mod BackReferences
 pub mod Grammar
 pub mod Spans
+pub mod Members

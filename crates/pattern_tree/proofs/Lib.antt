@@ -14,4 +14,5 @@ pub mod Told
 pub mod SpanSteps
 pub mod SpanReader
 pub mod FormLaws
+pub mod MemberLaws
 pub mod ReadLemmas

@@ -8,6 +8,7 @@ mod escape;
 mod form;
 mod grammar;
 pub mod laws;
+mod members;
 mod node;
 mod number;
 mod out_of_memory;

@@ -5,6 +5,7 @@ ghost use Rattle.pattern_tree.specs.Below.{all_below};
 
 use crate::class_item::ClassItem;
 use crate::form::{Form, NodeId};
+use crate::members::shape_has;
 use crate::node::Node;
 use crate::span::Span;
 use crate::views::{form_of, items_of, name_of};
@@ -19,7 +20,8 @@ pub struct Pattern {
 }
 
 impl Pattern {
-    ghost use Rattle.std.specs.Prelude.{◌≡◌, map, option_map};
+    ghost use Rattle.std.specs.Prelude.{◌≡◌, ◌≤◌, map, option_map, true};
+    ghost use Rattle.pattern_model.specs.Members.{is_set, tree_has};
     ghost use Rattle.pattern_tree.specs.Nodes.{item_of};
     ghost use Rattle.pattern_tree.specs.Forms.{IsForm, tree_items, tree_name};
     ghost use Rattle.pattern_tree.specs.Patterns.{HasNode, node_tree, node_span, tree_of};
@@ -64,5 +66,16 @@ impl Pattern {
         ensures { option_map (λ n. n.now) result ≡ tree_name (node_tree self.now id) }
     {
         name_of(&self.nodes[id.0 as usize].shape)
+    }
+
+    /// Whether a code point is a member of a class or class escape that has no property escape. The items of a class are
+    /// tried one after the other.
+    pub fn class_has(&self, id: NodeId, code: u32) -> bool
+        requires node { HasNode self.now id }
+        requires set { is_set (node_tree self.now id) ≡ true }
+        requires code { code ≤ 1114111 }
+        ensures { result ≡ tree_has (node_tree self.now id) code }
+    {
+        shape_has(&self.nodes[id.0 as usize].shape, code)
     }
 }

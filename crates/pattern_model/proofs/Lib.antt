@@ -1,0 +1,4 @@
+pub mod PartTails
+pub mod TokenTails
+pub mod PartLaws
+pub mod SpanLaws

@@ -1,0 +1,17 @@
+pub mod Tree
+pub mod Text
+pub mod Digits
+pub mod CodePoints
+pub mod Letters
+pub mod Escapes
+pub mod Properties
+pub mod GroupNames
+pub mod Classes
+pub mod Quantifiers
+pub mod Groups
+pub mod Tokens
+pub mod SharedNames
+pub mod BackReferences
+pub mod Grammar
+pub mod Spans
+pub mod Members

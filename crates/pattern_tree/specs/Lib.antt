@@ -1,0 +1,11 @@
+pub mod Machine
+pub mod LiveNames
+pub mod TokenTests
+pub mod Capped
+pub mod Below
+pub mod Nodes
+pub mod Parts
+pub mod Spans
+pub mod Places
+pub mod Patterns
+pub mod Forms

@@ -76,8 +76,9 @@ impl Map {
         self.members.get(key)
     }
 
-    /// Puts a value under a key, and hands out the value that stood there, if any. A new key may take memory: where that
-    /// could not be had, key and value are handed back, and the map is as before.
+    /// Puts a value under a key, and hands out the value that stood there, if any. A new key moves the members after it, and
+    /// may take memory: where that could not be had, key and value are handed back, and the map is as before. For many keys
+    /// take `from_members`, which sorts once.
     pub fn insert(&mut self, key: String, value: Value) -> Result<Option<Value>, InsertError>
         ensures old { IfOk result (λ old. option_map tree old ≡ lookup (string_bytes key) (pairs self.old)) }
         ensures new { OnOk result ((k : List ℕ) → lookup k (pairs self.new)

@@ -46,11 +46,14 @@ impl<V> Model for KeyMap<V> {
 }
 
 /// Which of two keys comes first: the shorter, and of two of one length the one with the lower byte where they first differ.
-/// It takes the time of the shorter key.
+/// Keys of two lengths are told apart by these alone.
 fn compare_keys(key: &str, other: &str) -> Ordering
     ensures { result ≡ key_cmp key.now other.now }
 {
-    key.len().cmp(&other.len()).then(key.cmp(other))
+    if key.len() != other.len() {
+        return key.len().cmp(&other.len());
+    }
+    key.cmp(other)
 }
 
 /// Where a key stands in members whose keys rise, as `Ok`, or the place where it would, as `Err`. It compares some log2 n of
@@ -183,7 +186,7 @@ impl<V> KeyMap<V> {
 
     /// Puts a value under a key, and hands out the value that stood there, if any. It compares the key with some log2 n of n
     /// keys. A new key moves the members after it, and may take memory: where that could not be had, the member comes back as
-    /// the error, and the map is as before.
+    /// the error, and the map is as before. For many keys take `from_members`, which sorts once.
     pub fn insert(&mut self, key: String, value: V) -> Result<Option<V>, Member<V>>
         ensures old { IfOk result (λ old. old ≡ lookup (string_bytes key) self.old) }
         ensures new { OnOk result ((k : List ℕ) → lookup k self.new ≡ (if bytes_eq k (string_bytes key) then Some value else lookup k self.old)) }

@@ -313,19 +313,26 @@ both_none : (a : Option (List (List ℕ) × Place)) → both_of a None ≡ None
 both_none None = refl
 both_none (Some k) = refl
 
+-- one name more, and one value
+abbrev names_more : Item → Option (List (List ℕ) × Place) → Option (List (List ℕ) × Place)
+names_more x a = a >>= λ ks. Some (x.piece ∷ ks.0, ks.1)
+
+abbrev values_more : Option Tree → Option (Elements × Place) → Option (Elements × Place)
+values_more t r = t >>= λ t. r >>= λ ts. Some (element t ts.0, ts.1)
+
 -- members that are JSON, one more: the member, and the others
 pub next_member : (n : ℕ) (p p' q q' : Place) (x y : Item) → item_at p ≡ Some (x, p') → item_at q ≡ Some (y, q')
     → AreJsonMembers (members_at (suc n) p q) → NextMember n p q x y p' q'
 next_member n p p' q q' x y e f json = go (names_at n p') refl (item_tree q.at y) refl (elements_by read n q') refl (subst AreJsonMembers made json)
   where
-    made : members_at (suc n) p q ≡ both_of (names_at n p' >>= λ ks. Some (x.piece ∷ ks.0, ks.1)) (item_tree q.at y >>= λ t. elements_by read n q' >>= λ ts. Some (element t ts.0, ts.1))
+    made : members_at (suc n) p q ≡ both_of (names_more x (names_at n p')) (values_more (item_tree q.at y) (elements_by read n q'))
     made =
         ap (λ (a : Option (List (List ℕ) × Place)). both_of a (elements_by read (suc n) q)) (names_some n p p' x e)
-        ∙ ap (both_of (names_at n p' >>= λ ks. Some (x.piece ∷ ks.0, ks.1))) (values_some n q q' y f)
+        ∙ ap (both_of (names_more x (names_at n p'))) (values_some n q q' y f)
 
     go : (a : Option (List (List ℕ) × Place)) → names_at n p' ≡ a → (t : Option Tree) → item_tree q.at y ≡ t → (r : Option (Elements × Place))
         → elements_by read n q' ≡ r
-        → AreJsonMembers (both_of (a >>= λ ks. Some (x.piece ∷ ks.0, ks.1)) (t >>= λ t. r >>= λ ts. Some (element t ts.0, ts.1)))
+        → AreJsonMembers (both_of (names_more x a) (values_more t r))
         → NextMember n p q x y p' q'
     go None ea t et r er h = absurd cc
     go (Some ks) ea None et r er h = absurd cc
@@ -342,12 +349,12 @@ next_member n p p' q q' x y e f json = go (names_at n p') refl (item_tree q.at y
           pairs =
               ap or_none made
               ∙ ap
-              (λ (a : Option (List (List ℕ) × Place)). or_none (both_of (a >>= λ ks. Some (x.piece ∷ ks.0, ks.1)) (item_tree q.at y >>= λ t. elements_by read n q' >>= λ ts. Some (element t ts.0, ts.1))))
+              (λ (a : Option (List (List ℕ) × Place)). or_none (both_of (names_more x a) (values_more (item_tree q.at y) (elements_by read n q'))))
               ea
               ∙ ap
-              (λ (o : Option Tree). or_none (both_of (Some (x.piece ∷ ks.0, ks.1)) (o >>= λ t. elements_by read n q' >>= λ ts. Some (element t ts.0, ts.1))))
+              (λ (o : Option Tree). or_none (both_of (Some (x.piece ∷ ks.0, ks.1)) (values_more o (elements_by read n q'))))
               et
-              ∙ ap (λ (o : Option (Elements × Place)). or_none (both_of (Some (x.piece ∷ ks.0, ks.1)) (o >>= λ ts. Some (element t ts.0, ts.1)))) er
+              ∙ ap (λ (o : Option (Elements × Place)). or_none (both_of (Some (x.piece ∷ ks.0, ks.1)) (values_more (Some t) o))) er
               ∙ ap (λ (o : Option Tree). (x.piece, or_null o) ∷ pairs_in (members ks.0 ts.0)) (sym et)
               ∙ ap (λ (o : Option Members). (x.piece, or_null (item_tree q.at y)) ∷ or_none o) (sym rest);
         }

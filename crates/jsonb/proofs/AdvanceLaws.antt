@@ -170,7 +170,8 @@ starts b f top none empty e flat = record {
   flat = λ t is low. (empty, flat t is low);
 }
 
-module _ {b : List ℕ} {found : Found} {frame : Frame} {current : Option Frame} {old : List Frame} (now : current ≡ Some frame) (s : SoFar b found current old) where
+module _ {b : List ℕ} {found : Found} {frame : Frame} {current : Option Frame} {old : List Frame}
+    (now : current ≡ Some frame) (s : SoFar b found current old) where
   at_frame : combine (Some found) (combine (frame_found frame) (frames_found old)) ≡ container_found b
   at_frame = ap (λ (n : Option Frame). combine (Some found) (combine (next_found n) (frames_found old))) (sym now) ∙ s.so_far
 

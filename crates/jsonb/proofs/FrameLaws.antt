@@ -141,7 +141,8 @@ module _ (b : List ℕ) where
     object_by k h =
         opened_by (Some (Object, c, p)) e
         ∙ ap
-        (λ (k : Option (List (List ℕ) × Place)). option_map tree_found (k >>= λ k. elements_by read c k.1 >>= λ r. ended r.1 (object (members k.0 r.0))))
+        (λ (k : Option (List (List ℕ) × Place)).
+        option_map tree_found (k >>= λ k. elements_by read c k.1 >>= λ r. ended r.1 (object (members k.0 r.0))))
         (sym h)
 
     -- an object without its keys is none

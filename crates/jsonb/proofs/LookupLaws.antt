@@ -156,7 +156,8 @@ first {c = c} {n = n} {p = p} {q = q} w =
 
 -- the first key is the key, or the rest of the walk decides
 one_key : (k : List ℕ) (s : ℕ) {c n : ℕ} {p q : Place} {all : Members} (f : First c n p q all)
-    → ((r : Option Place) → behind_key k n f.keys ≡ r → Outcome s c r (lookup k (pairs_in (members_of f.rest))) (lookup k (member_seats s n f.keys f.values)))
+    → ((r : Option Place) → behind_key k n f.keys ≡ r
+    → Outcome s c r (lookup k (pairs_in (members_of f.rest))) (lookup k (member_seats s n f.keys f.values)))
     → (r : Option Place) → behind_key k (suc n) p ≡ r → Outcome s c r (lookup k (pairs_in all)) (lookup k (member_seats s (suc n) p q))
 unfolding behind_key
 one_key k s {c = c} {n = n} {p = p} {q = q} f rest r er =

@@ -9,13 +9,13 @@ use Rattle.json_model.specs.Tree.{Tree, array, object, Elements, no_elements, el
 use Rattle.jsonb_layout.specs.Layout.{Item}
 use Rattle.jsonb_layout.specs.declared.form.Form.{Form}
 use Rattle.jsonb_layout.specs.declared.form.Form.TheVariants.{Array, Object, Lone}
-use Rattle.jsonb_layout.specs.Options.{◌>>=◌, only_if}
-use Rattle.jsonb_layout.specs.inner.Reading.{Place, item_at, follows, keys_at, opened, ended}
+use Rattle.jsonb_layout.specs.Options.{◌>>=◌}
+use Rattle.jsonb_layout.specs.inner.Reading.{Place, item_at, keys_at, opened, ended}
 use Rattle.jsonb_layout.specs.inner.Trees.{elements_by, members, held_by, read, item_tree}
 use Rattle.jsonb_layout.proofs.Containers.{count}
 use Rattle.jsonb_layout.proofs.Openings.{ended_is}
 use Rattle.jsonb_layout.proofs.Shapes.{elements_count, keys_count, keys_rise}
-use Rattle.jsonb_layout.proofs.Tools.{guard, bind_some, some_is, some, less_one}
+use Rattle.jsonb_layout.proofs.Tools.{bind_some, some_is, some, less_one}
 use Rattle.jsonb_layout.proofs.Unrolled.{read_unroll}
 use Rattle.jsonb.specs.Found.{both, text_found, tree_found, members_found}
 use Rattle.jsonb.specs.inner.Values.{or_null, is_clean, IsJsonTree, array_at, object_at, names_at, members_at, AreJsonMembers, or_no_pairs, pairs_at, skip}
@@ -25,6 +25,7 @@ use Rattle.jsonb.specs.inner.Views.{place}
 use Rattle.jsonb.specs.declared.object.JsonbObject.{JsonbObject}
 use Rattle.jsonb.specs.declared.members.JsonbMembers.{JsonbMembers}
 use Rattle.jsonb.proofs.Walks.{skip_words}
+use Rattle.jsonb_layout.proofs.NextKey.{next_key}
 
 -- ---- a container's tree
 
@@ -187,23 +188,15 @@ module _ (c : ℕ) (p : Place) (json : IsJsonTree (object_at c p)) where
       ∙ ap rises (names_of_pairs o.names o.trees o.counts)
       ∙ keys_rise c p (o.names, o.behind) o.keys_are
 
--- ---- keys that are read are names, and end where so many items end
-
 -- keys that are read are names, and end where so many items end
 pub keys_names : (n : ℕ) (before : Option (List ℕ)) (p : Place) (r : List (List ℕ) × Place) → keys_at n before p ≡ Some r
     → (names_at n p ≡ Some r) × (skip n p ≡ Some r.1)
 unfolding keys_at names_at skip
 keys_names zero before p r e = (e, ap (option_map (λ (y : List (List ℕ) × Place). y.1)) e)
 keys_names (suc n) before p r e =
-    let a =
-    bind_some (item_at p)
-    (λ x. only_if (eqb x.0.kind 0 && follows before x.0.piece) (keys_at n (Some x.0.piece) x.1) >>= λ ks. Some (x.0.piece ∷ ks.0, ks.1)) r e in
-    let b =
-    bind_some (only_if (eqb a.0.0.kind 0 && follows before a.0.0.piece) (keys_at n (Some a.0.0.piece) a.0.1))
-    (λ ks. Some (a.0.0.piece ∷ ks.0, ks.1)) r a.2 in
-    let g = guard (eqb a.0.0.kind 0 && follows before a.0.0.piece) (keys_at n (Some a.0.0.piece) a.0.1) b.0 b.1 in
-    let more = keys_names n (Some a.0.0.piece) a.0.1 b.0 g.1 in
-    put n p r a.0.0 a.0.1 b.0 a.1 more.0 more.1 b.2
+    let k = next_key n before p r e in
+    let more = keys_names n (Some k.key.piece) k.behind k.others k.more in
+    put n p r k.key k.behind k.others k.here more.0 more.1 (ap (λ (y : List (List ℕ) × Place). some y) k.whole)
   where
     put : (n : ℕ) (p : Place) (r : List (List ℕ) × Place) (x : Item) (q : Place) (ks : List (List ℕ) × Place) → item_at p ≡ Some (x, q)
         → names_at n q ≡ Some ks → skip n q ≡ Some ks.1 → ◌≡◌ {A = Option (List (List ℕ) × Place)} (Some (x.piece ∷ ks.0, ks.1)) (Some r)
@@ -313,19 +306,26 @@ both_none : (a : Option (List (List ℕ) × Place)) → both_of a None ≡ None
 both_none None = refl
 both_none (Some k) = refl
 
+-- one name more, and one value
+abbrev names_more : Item → Option (List (List ℕ) × Place) → Option (List (List ℕ) × Place)
+names_more x a = a >>= λ ks. Some (x.piece ∷ ks.0, ks.1)
+
+abbrev values_more : Option Tree → Option (Elements × Place) → Option (Elements × Place)
+values_more t r = t >>= λ t. r >>= λ ts. Some (element t ts.0, ts.1)
+
 -- members that are JSON, one more: the member, and the others
 pub next_member : (n : ℕ) (p p' q q' : Place) (x y : Item) → item_at p ≡ Some (x, p') → item_at q ≡ Some (y, q')
     → AreJsonMembers (members_at (suc n) p q) → NextMember n p q x y p' q'
 next_member n p p' q q' x y e f json = go (names_at n p') refl (item_tree q.at y) refl (elements_by read n q') refl (subst AreJsonMembers made json)
   where
-    made : members_at (suc n) p q ≡ both_of (names_at n p' >>= λ ks. Some (x.piece ∷ ks.0, ks.1)) (item_tree q.at y >>= λ t. elements_by read n q' >>= λ ts. Some (element t ts.0, ts.1))
+    made : members_at (suc n) p q ≡ both_of (names_more x (names_at n p')) (values_more (item_tree q.at y) (elements_by read n q'))
     made =
         ap (λ (a : Option (List (List ℕ) × Place)). both_of a (elements_by read (suc n) q)) (names_some n p p' x e)
-        ∙ ap (both_of (names_at n p' >>= λ ks. Some (x.piece ∷ ks.0, ks.1))) (values_some n q q' y f)
+        ∙ ap (both_of (names_more x (names_at n p'))) (values_some n q q' y f)
 
     go : (a : Option (List (List ℕ) × Place)) → names_at n p' ≡ a → (t : Option Tree) → item_tree q.at y ≡ t → (r : Option (Elements × Place))
         → elements_by read n q' ≡ r
-        → AreJsonMembers (both_of (a >>= λ ks. Some (x.piece ∷ ks.0, ks.1)) (t >>= λ t. r >>= λ ts. Some (element t ts.0, ts.1)))
+        → AreJsonMembers (both_of (names_more x a) (values_more t r))
         → NextMember n p q x y p' q'
     go None ea t et r er h = absurd cc
     go (Some ks) ea None et r er h = absurd cc
@@ -342,12 +342,12 @@ next_member n p p' q q' x y e f json = go (names_at n p') refl (item_tree q.at y
           pairs =
               ap or_none made
               ∙ ap
-              (λ (a : Option (List (List ℕ) × Place)). or_none (both_of (a >>= λ ks. Some (x.piece ∷ ks.0, ks.1)) (item_tree q.at y >>= λ t. elements_by read n q' >>= λ ts. Some (element t ts.0, ts.1))))
+              (λ (a : Option (List (List ℕ) × Place)). or_none (both_of (names_more x a) (values_more (item_tree q.at y) (elements_by read n q'))))
               ea
               ∙ ap
-              (λ (o : Option Tree). or_none (both_of (Some (x.piece ∷ ks.0, ks.1)) (o >>= λ t. elements_by read n q' >>= λ ts. Some (element t ts.0, ts.1))))
+              (λ (o : Option Tree). or_none (both_of (Some (x.piece ∷ ks.0, ks.1)) (values_more o (elements_by read n q'))))
               et
-              ∙ ap (λ (o : Option (Elements × Place)). or_none (both_of (Some (x.piece ∷ ks.0, ks.1)) (o >>= λ ts. Some (element t ts.0, ts.1)))) er
+              ∙ ap (λ (o : Option (Elements × Place)). or_none (both_of (Some (x.piece ∷ ks.0, ks.1)) (values_more (Some t) o))) er
               ∙ ap (λ (o : Option Tree). (x.piece, or_null o) ∷ pairs_in (members ks.0 ts.0)) (sym et)
               ∙ ap (λ (o : Option Members). (x.piece, or_null (item_tree q.at y)) ∷ or_none o) (sym rest);
         }

@@ -56,7 +56,9 @@ dscale_fits b x e =
     let w = from_le_bytes w16 (take 2 b) in
     let v = from_le_bytes w16 (take 2 (drop 2 b)) in
     let g = guard (leb 2 (length b)) (header_with w b) x e in
-    elim (chosen (ltb w (2 ^ 15)) (only_if (leb 4 (length b)) (Some (long_of w v, drop 4 b))) (only_if (ltb w (2 ^ 15 + 2 ^ 14)) (Some (short_of w, drop 2 b))) (Some x) g.1) [
+    let long : Option (Header × List ℕ) = only_if (leb 4 (length b)) (Some (long_of w v, drop 4 b)) in
+    let short : Option (Header × List ℕ) = only_if (ltb w (2 ^ 15 + 2 ^ 14)) (Some (short_of w, drop 2 b)) in
+    elim (chosen (ltb w (2 ^ 15)) long short (Some x) g.1) [
       | inl c ↦
           let d = guard (leb 4 (length b)) (Some (long_of w v, drop 4 b)) x c.1 in
           subst (λ (y : Header × List ℕ). y.0.dscale < 2 ^ 14) (some_is (long_of w v, drop 4 b) x d.1) (omega arith)
@@ -91,7 +93,8 @@ are_worth h gs d weight v few lift =
     subst (λ (l : ℕ). parts_in d * 10000 ^ (length gs + 2 ^ 15) ≡ parts * (joined_in 10000 gs * 10000 ^ (l + 1))) (sym lift)
     (subst (λ (j : ℕ). parts_in d * 10000 ^ (length gs + 2 ^ 15) ≡ parts * (j * 10000 ^ (h.lift + 1))) (joined_same gs)
     (subst (λ (f : ℕ). nat_abs d.digits * 10 ^ (16383 - f) * 10000 ^ (length gs + 2 ^ 15) ≡ parts * (joined gs * 10000 ^ (h.lift + 1))) (sym v.places)
-    (worth_by (nat_abs d.digits) (10 ^ (16383 - h.dscale)) (10 ^ h.dscale) parts (10000 ^ (length gs + 2 ^ 15)) (joined gs * 10000 ^ (h.lift + 1)) (parts_split h.dscale few) v.size)))
+    (worth_by (nat_abs d.digits) (10 ^ (16383 - h.dscale)) (10 ^ h.dscale) parts (10000 ^ (length gs + 2 ^ 15))
+    (joined gs * 10000 ^ (h.lift + 1)) (parts_split h.dscale few) v.size)))
 
 -- that many parts, of its sign, are what a decimal is worth
 is_worth : (m : Bool) (d : Decimal) → d.digits ≡ signed m (nat_abs d.digits) → d.places ≤ 16383 → IsWorth (signed m (parts_in d)) d
@@ -132,7 +135,8 @@ says : {h : Header} {weight : ℤ} {b : List ℕ} (gs : List ℕ) {d : Decimal} 
     → are_groups gs ≡ true → value_of h gs ≡ Some d → IsNarrow d → Says h weight b d
 says {h = h} {weight = weight} {b = b} gs {d = d} lift fits e fit value narrow =
     let below =
-    (and_parts (all_below gs) (ltb 0 (get_or gs 0 1)) (and_parts (all_below gs && ltb 0 (get_or gs 0 1)) (ltb 0 (get_or gs (length gs - 1) 1)) fit).0).0
+    (and_parts (all_below gs) (ltb 0 (get_or gs 0 1))
+    (and_parts (all_below gs && ltb 0 (get_or gs 0 1)) (ltb 0 (get_or gs (length gs - 1) 1)) fit).0).0
     in
     let same = same_groups b gs e below in
     let v = value_takes h gs d value in

@@ -186,8 +186,8 @@ short_own kinds.Null at piece lt = refl
 short_own kinds.Container at piece lt = refl
 
 -- a value ends where its piece does, or has no bytes and is before it
-pub place_room : (own : List ℕ) (place : ℕ) {word begin result top : ℕ} → result ≡ where_it_is own word place → word ≤ begin → place + length own < top
-    → begin < top → result + length own < top
+pub place_room : (own : List ℕ) (place : ℕ) {word begin result top : ℕ} → result ≡ where_it_is own word place
+    → word ≤ begin → place + length own < top → begin < top → result + length own < top
 place_room own place {word = word} {begin = begin} {result = result} {top = top} e le lt less = go (length own) e lt
   where
     go : (n : ℕ) → result ≡ cond (eqb n 0) word place → place + n < top → result + n < top

@@ -36,15 +36,16 @@ held_item (object ms) at x q k e h = (k, (q, e, h))
 
 pub item_takes_tree : (inside : List ℕ → Option Tree) → Takes inside → (at : ℕ) (x : Item) (t : Tree) → IsBytes x.piece
     → item_by inside at x ≡ Some t → IsItem t at x
-item_takes_tree inside ok at x t fits e = elim (chosen (eqb x.kind 5) (unpadded at x.piece >>= inside) (scalar_of at x >>= λ s. Some (scalar s)) (Some t) e) [
-  | inl g ↦
-      let a = bind_some (unpadded at x.piece) inside t g.1 in
-      let u = unpadded_takes at x.piece a.0 a.1 in
-      held_item t at x a.0 (eqb-true x.kind 5 g.0) u.0 (ok a.0 t (rw u.1 (IsBytes-drop (pad at) x.piece fits)) a.2)
-  | inr g ↦
-      let a = bind_some (scalar_of at x) (λ s. Some (scalar s)) t g.1 in
-      subst (λ (y : Tree). IsItem y at x) (some_is (scalar a.0) t a.2) (scalar_takes at x a.0 fits a.1)
-]
+item_takes_tree inside ok at x t fits e = elim (chosen (eqb x.kind 5) (unpadded at x.piece >>= inside)
+    (scalar_of at x >>= λ s. Some (scalar s)) (Some t) e) [
+      | inl g ↦
+          let a = bind_some (unpadded at x.piece) inside t g.1 in
+          let u = unpadded_takes at x.piece a.0 a.1 in
+          held_item t at x a.0 (eqb-true x.kind 5 g.0) u.0 (ok a.0 t (rw u.1 (IsBytes-drop (pad at) x.piece fits)) a.2)
+      | inr g ↦
+          let a = bind_some (scalar_of at x) (λ s. Some (scalar s)) t g.1 in
+          subst (λ (y : Tree). IsItem y at x) (some_is (scalar a.0) t a.2) (scalar_takes at x a.0 fits a.1)
+    ]
 
 -- a scalar has another kind than 5
 pub not_five : (s : Scalar) (at : ℕ) (x : Item) → IsScalar s at x → x.kind ≡ 5 → ⊥

@@ -1,15 +1,14 @@
 -- Keys that are read are those that a run of items stands for.
-use Rattle.std.proofs.Common.{◌≡◌, ℕ, zero, suc, ◌+◌, ◌^◌, ◌<◌, Bool, true, eqb, List, [], ◌∷◌, length, map, Option, Some, None, refl, ap, subst, arith}
-use Rattle.std.specs.Prelude.{◌&&◌}
-use Rattle.std.proofs.lemmas.Bool.{eqb-true, and_parts}
+use Rattle.std.proofs.Common.{◌≡◌, ℕ, zero, suc, ◌+◌, ◌^◌, ◌<◌, Bool, true, List, [], ◌∷◌, length, map, Option, Some, None, refl, ap, subst, arith}
+use Rattle.std.proofs.lemmas.Bool.{and_parts}
 use Rattle.std.proofs.lemmas.List.{length-append}
 use Rattle.jsonb_layout.specs.Layout.{Item, pieces}
 use Rattle.json_model.specs.Keys.{key_before, rises}
 use Rattle.jsonb_layout.specs.Stands.{key_item}
-use Rattle.jsonb_layout.specs.Options.{◌>>=◌, only_if}
-use Rattle.jsonb_layout.specs.inner.Reading.{Place, item_at, follows, keys_at}
-use Rattle.jsonb_layout.proofs.Tools.{guard, bind_some, some_is}
+use Rattle.jsonb_layout.specs.inner.Reading.{Place, follows, keys_at}
+use Rattle.jsonb_layout.proofs.Tools.{some_is}
 use Rattle.jsonb_layout.proofs.Runs.{Run, Run-nil, Run-cons, Run-none, Run-tail, after, Fit, item_takes, item_again}
+use Rattle.jsonb_layout.proofs.NextKey.{next_key}
 
 -- keys that rise, also after one before them
 abbrev pub rises_after : Option (List ℕ) → List (List ℕ) → Bool
@@ -49,23 +48,14 @@ keys_take zero before p r fit e =
     subst (λ (y : List (List ℕ) × Place). KeyRun before p y.1 y.0 0) (some_is ([], p) r e)
     (record { run = Run-nil p; fit = fit; rise = starts before; count = refl })
 keys_take (suc n) before p r fit e =
-    let a =
-    bind_some (item_at p)
-    (λ x. only_if (eqb x.0.kind 0 && follows before x.0.piece) (keys_at n (Some x.0.piece) x.1) >>= λ ks. Some (x.0.piece ∷ ks.0, ks.1)) r e in
-    let b =
-    bind_some (only_if (eqb a.0.0.kind 0 && follows before a.0.0.piece) (keys_at n (Some a.0.0.piece) a.0.1))
-    (λ ks. Some (a.0.0.piece ∷ ks.0, ks.1)) r a.2 in
-    let g = guard (eqb a.0.0.kind 0 && follows before a.0.0.piece) (keys_at n (Some a.0.0.piece) a.0.1) b.0 b.1 in
-    let t = and_parts (eqb a.0.0.kind 0) (follows before a.0.0.piece) g.0 in
-    let one = item_takes p a.0.1 a.0.0 fit a.1 in
-    let more = keys_take n (Some a.0.0.piece) a.0.1 b.0 one.1 g.1 in
-    let first : Run p a.0.1 (key_item a.0.0.piece ∷ []) =
-    subst (λ (x : Item). Run p a.0.1 (x ∷ [])) (key_is a.0.0 (eqb-true a.0.0.kind 0 t.0)) one.0 in
-    let made : List (List ℕ) × Place = (a.0.0.piece ∷ b.0.0, b.0.1) in
-    subst (λ (y : List (List ℕ) × Place). KeyRun before p y.1 y.0 (suc n)) (some_is made r b.2) (record {
-      run = Run-cons p b.0.1 a.0.1 (key_item a.0.0.piece) (map key_item b.0.0) first more.run;
+    let k = next_key n before p r e in
+    let one = item_takes p k.behind k.key fit k.here in
+    let more = keys_take n (Some k.key.piece) k.behind k.others one.1 k.more in
+    let first : Run p k.behind (key_item k.key.piece ∷ []) = subst (λ (x : Item). Run p k.behind (x ∷ [])) (key_is k.key k.is_key) one.0 in
+    subst (λ (y : List (List ℕ) × Place). KeyRun before p y.1 y.0 (suc n)) k.whole (record {
+      run = Run-cons p k.others.1 k.behind (key_item k.key.piece) (map key_item k.others.0) first more.run;
       fit = more.fit;
-      rise = rises_more before a.0.0.piece b.0.0 t.1 more.rise;
+      rise = rises_more before k.key.piece k.others.0 k.rises more.rise;
       count = ap suc more.count;
     })
 

@@ -9,6 +9,7 @@ pub mod Containers
 pub mod Narrow
 pub mod Theory
 pub mod Cuts
+pub mod NextKey
 pub mod Sizes
 pub mod Unrolled
 pub mod Shapes

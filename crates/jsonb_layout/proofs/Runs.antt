@@ -132,7 +132,8 @@ item_again p q x xs r l =
     let room : length x.piece ≤ length p.rest = omega (arith, ap length whole, length-append x.piece (pieces xs ++ q.rest)) in
     item_from p w (length x.piece) long (ap (from_le_bytes w32) t ∙ from_le_bytes-to_le_bytes_4 w s.fits)
     (says_length p.index p.at (length x.piece) w s.len) room
-    ∙ found_same (p.index + 1) (p.at + length x.piece) s.kind (ap (take (length x.piece)) whole ∙ take_at x.piece (pieces xs ++ q.rest) (length x.piece) refl) d
+    ∙ found_same (p.index + 1) (p.at + length x.piece) s.kind
+    (ap (take (length x.piece)) whole ∙ take_at x.piece (pieces xs ++ q.rest) (length x.piece) refl) d
     (ap (drop (length x.piece)) whole ∙ drop_at x.piece (pieces xs ++ q.rest) (length x.piece) refl)
 
 -- the bytes at a place are bytes

@@ -31,7 +31,8 @@ seat_from word payload at x =
     record { at = where_it_is own word (payload + at + (length x.piece - length own)); kind = x.kind; bytes = own }
 
 seat_from_same : {v w s r a b : ℕ} (x : Item) → v ≡ w → s ≡ r → a ≡ b → seat_from v s a x ≡ seat_from w r b x
-seat_from_same {w = w} {s = s} {r = r} {a = a} x e f g = ap (λ (k : ℕ). seat_from k s a x) e ∙ ap (λ (k : ℕ). seat_from w k a x) f ∙ ap (λ (k : ℕ). seat_from w r k x) g
+seat_from_same {w = w} {s = s} {r = r} {a = a} x e f g =
+    ap (λ (k : ℕ). seat_from k s a x) e ∙ ap (λ (k : ℕ). seat_from w k a x) f ∙ ap (λ (k : ℕ). seat_from w r k x) g
 
 -- The seat that is computed is the item's, where the place is behind the pieces before it, and as many entry words are
 -- left as there are items from it on.

@@ -1,18 +1,17 @@
 -- How many elements and keys are read, that keys rise, and that a container is no scalar.
-use Rattle.std.proofs.Common.{◌≡◌, ℕ, zero, suc, true, eqb, List, [], ◌∷◌, length, Option, Some, None, sym, ap, ◌∙◌}
-use Rattle.std.specs.Prelude.{◌&&◌}
-use Rattle.std.proofs.lemmas.Bool.{and_parts}
+use Rattle.std.proofs.Common.{◌≡◌, ℕ, zero, suc, true, List, [], length, Option, Some, None, sym, ap, ◌∙◌}
 use Rattle.json_model.specs.Tree.{Scalar, Tree, scalar, array, object, Elements, no_elements, element}
 use Rattle.json_model.specs.Keys.{rises}
 use Rattle.jsonb_layout.specs.declared.form.Form.{Form}
 use Rattle.jsonb_layout.specs.declared.form.Form.TheVariants.{Array, Object, Lone}
-use Rattle.jsonb_layout.specs.Options.{◌>>=◌, only_if}
-use Rattle.jsonb_layout.specs.inner.Reading.{Place, item_at, follows, keys_at, opened, ended}
+use Rattle.jsonb_layout.specs.Options.{◌>>=◌}
+use Rattle.jsonb_layout.specs.inner.Reading.{Place, item_at, keys_at, opened, ended}
 use Rattle.jsonb_layout.specs.inner.Trees.{item_by, elements_by, members, held_by, container_of, read}
-use Rattle.jsonb_layout.proofs.Tools.{guard, bind_some, some_is}
+use Rattle.jsonb_layout.proofs.Tools.{bind_some, some_is}
 use Rattle.jsonb_layout.proofs.KeyRuns.{rises_after, rises_more, starts}
 use Rattle.jsonb_layout.proofs.Openings.{ended_is}
 use Rattle.jsonb_layout.proofs.Containers.{count}
+use Rattle.jsonb_layout.proofs.NextKey.{next_key}
 
 -- as many elements are read as are asked for
 pub elements_count : (inside : List ℕ → Option Tree) (n : ℕ) (p : Place) (r : Elements × Place) → elements_by inside n p ≡ Some r → count r.0 ≡ n
@@ -36,18 +35,10 @@ keys_rising zero before p r e =
       ap (λ (y : List (List ℕ) × Place). rises_after before y.0) (sym same) ∙ starts before,
     )
 keys_rising (suc n) before p r e =
-    let a =
-    bind_some (item_at p)
-    (λ x. only_if (eqb x.0.kind 0 && follows before x.0.piece) (keys_at n (Some x.0.piece) x.1) >>= λ ks. Some (x.0.piece ∷ ks.0, ks.1)) r e in
-    let b =
-    bind_some (only_if (eqb a.0.0.kind 0 && follows before a.0.0.piece) (keys_at n (Some a.0.0.piece) a.0.1))
-    (λ ks. Some (a.0.0.piece ∷ ks.0, ks.1)) r a.2 in
-    let g = guard (eqb a.0.0.kind 0 && follows before a.0.0.piece) (keys_at n (Some a.0.0.piece) a.0.1) b.0 b.1 in
-    let more = keys_rising n (Some a.0.0.piece) a.0.1 b.0 g.1 in
-    let same = some_is (a.0.0.piece ∷ b.0.0, b.0.1) r b.2 in (
-      ap (λ (y : List (List ℕ) × Place). length y.0) (sym same) ∙ ap suc more.0,
-      ap (λ (y : List (List ℕ) × Place). rises_after before y.0) (sym same)
-          ∙ rises_more before a.0.0.piece b.0.0 (and_parts (eqb a.0.0.kind 0) (follows before a.0.0.piece) g.0).1 more.1,
+    let k = next_key n before p r e in
+    let more = keys_rising n (Some k.key.piece) k.behind k.others k.more in (
+      ap (λ (y : List (List ℕ) × Place). length y.0) (sym k.whole) ∙ ap suc more.0,
+      ap (λ (y : List (List ℕ) × Place). rises_after before y.0) (sym k.whole) ∙ rises_more before k.key.piece k.others.0 k.rises more.1,
     )
 
 -- as many keys are read as are asked for

@@ -1,15 +1,16 @@
 -- How many bytes each step of the reading leaves.
-use Rattle.std.proofs.Common.{◌≡◌, ℕ, zero, suc, ◌+◌, ◌-◌, ◌*◌, ◌/◌, ◌%◌, ◌^◌, ◌<◌, ◌≤◌, eqb, leb, ltb, List, [], ◌∷◌, length, take, drop, Option, Some, refl, ap, subst, arith}
+use Rattle.std.proofs.Common.{◌≡◌, ℕ, zero, suc, ◌+◌, ◌-◌, ◌*◌, ◌/◌, ◌%◌, ◌^◌, ◌<◌, ◌≤◌, eqb, leb, ltb, List, [], length, take, drop, Option, Some, refl, ap, subst, arith}
 use Rattle.std.specs.Prelude.{◌&&◌}
 use Rattle.std.specs.Int.{w32, from_le_bytes}
 use Rattle.std.proofs.lemmas.Bool.{leb-true, ltb-true, and_parts}
 use Rattle.std.proofs.lemmas.List.{length-take-le, length-drop}
 use Rattle.jsonb_layout.specs.Layout.{Item, pad}
 use Rattle.jsonb_layout.specs.declared.form.Form.{Form}
-use Rattle.jsonb_layout.specs.Options.{◌>>=◌, only_if}
-use Rattle.jsonb_layout.specs.inner.Reading.{Place, length_of, item_with, item_at, unpadded, size, follows, keys_at, form_of, form_at, begun, items_in, opened}
+use Rattle.jsonb_layout.specs.Options.{only_if}
+use Rattle.jsonb_layout.specs.inner.Reading.{Place, length_of, item_with, item_at, unpadded, size, keys_at, form_of, form_at, begun, items_in, opened}
 use Rattle.jsonb_layout.proofs.Tools.{bind_some, guard, some_is}
 use Rattle.std.specs.List.{list_all}
+use Rattle.jsonb_layout.proofs.NextKey.{next_key}
 
 -- what an item takes of a container: its place, and the one behind it
 pub record Takes (p : Place) (x : Item) (q : Place) : Type 0 where
@@ -55,16 +56,10 @@ pub keys_size : (n : ℕ) (before : Option (List ℕ)) (p : Place) (r : List (Li
 unfolding keys_at
 keys_size zero before p r e = subst (λ (y : List (List ℕ) × Place). size y.1 ≤ size p) (some_is ([], p) r e) (omega arith)
 keys_size (suc n) before p r e =
-    let a =
-    bind_some (item_at p)
-    (λ x. only_if (eqb x.0.kind 0 && follows before x.0.piece) (keys_at n (Some x.0.piece) x.1) >>= λ ks. Some (x.0.piece ∷ ks.0, ks.1)) r e in
-    let b =
-    bind_some (only_if (eqb a.0.0.kind 0 && follows before a.0.0.piece) (keys_at n (Some a.0.0.piece) a.0.1))
-    (λ ks. Some (a.0.0.piece ∷ ks.0, ks.1)) r a.2 in
-    let g = guard (eqb a.0.0.kind 0 && follows before a.0.0.piece) (keys_at n (Some a.0.0.piece) a.0.1) b.0 b.1 in
-    let i = item_size p a.0.1 a.0.0 a.1 in
-    let m = keys_size n (Some a.0.0.piece) a.0.1 b.0 g.1 in
-    subst (λ (y : List (List ℕ) × Place). size y.1 ≤ size p) (some_is (a.0.0.piece ∷ b.0.0, b.0.1) r b.2) (omega (arith, i, m))
+    let k = next_key n before p r e in
+    let i = item_size p k.behind k.key k.here in
+    let m = keys_size n (Some k.key.piece) k.behind k.others k.more in
+    subst (λ (y : List (List ℕ) × Place). size y.1 ≤ size p) k.whole (omega (arith, i, m))
 
 -- how a container's bytes are shared out
 pub record Shares (b : List ℕ) (p : Place) : Type 0 where

@@ -23,7 +23,8 @@ invariant_of-result c =
       stands = subst (λ (b : List ℕ). IsJsonTree (value_of c.in-Some.kind b)) (sym own) k.owned.stands;
       short = subst (λ (b : List ℕ). is_short c.in-Some.kind b ≡ true) (sym own) short;
       room =
-          place_room c.own_bytes-bytes.result.now _ c.offset_of-offset.ensures c.requires.before (omega (arith, c.requires.room, c.own_bytes-bytes.ensures.length, size)) (omega (arith, c.requires.room));
+          place_room c.own_bytes-bytes.result.now _ c.offset_of-offset.ensures c.requires.before
+          (omega (arith, c.requires.room, c.own_bytes-bytes.ensures.length, size)) (omega (arith, c.requires.room));
     }
 
 pub returns-clause-tree : goal.returns-clause-tree

@@ -43,11 +43,13 @@ pub short_if : {A : Type 0} {n : Tails} (t : Bool) {a b : Option (A × Text)} �
 short_if true h g = h
 short_if false h g = g
 
-pub short_bind : {A B : Type 0} (m n : Tails) (f : A × Text → Option (B × Text)) (o : Option (A × Text)) → Short m o → ((p : A × Text) → m.holds p.1 → Short n (f p)) → Short n (option_and_then f o)
+pub short_bind : {A B : Type 0} (m n : Tails) (f : A × Text → Option (B × Text)) (o : Option (A × Text)) → Short m o →
+    ((p : A × Text) → m.holds p.1 → Short n (f p)) → Short n (option_and_then f o)
 short_bind m n f None h g = nothing
 short_bind m n f (Some p) (left l) g = g p l
 
-pub short_map : {A B : Type 0} (n : Tails) (f : A × Text → B × Text) (o : Option (A × Text)) → ((p : A × Text) → (f p).1 ≡ p.1) → Short n o → Short n (option_map f o)
+pub short_map : {A B : Type 0} (n : Tails) (f : A × Text → B × Text) (o : Option (A × Text)) → ((p : A × Text) → (f p).1 ≡ p.1) →
+    Short n o → Short n (option_map f o)
 short_map n f None e h = nothing
 short_map n f (Some p) e (left l) = left (subst n.holds (sym (e p)) l)
 
@@ -55,11 +57,13 @@ pub less_if : {n : Tails} (t : Bool) {a b : Option Text} → Less n a → Less n
 less_if true h g = h
 less_if false h g = g
 
-less_bind : (m n : Tails) (f : Text → Option Text) (o : Option Text) → Less m o → ((x : Text) → m.holds x → Less n (f x)) → Less n (option_and_then f o)
+less_bind : (m n : Tails) (f : Text → Option Text) (o : Option Text) → Less m o → ((x : Text) → m.holds x → Less n (f x)) →
+    Less n (option_and_then f o)
 less_bind m n f None h g = no_text
 less_bind m n f (Some x) (text l) g = g x l
 
-pub short_text : {A : Type 0} (n : Tails) (f : Text → A × Text) (o : Option Text) → ((x : Text) → (f x).1 ≡ x) → Less n o → Short n (option_map f o)
+pub short_text : {A : Type 0} (n : Tails) (f : Text → A × Text) (o : Option Text) → ((x : Text) → (f x).1 ≡ x) → Less n o →
+    Short n (option_map f o)
 short_text n f None e h = nothing
 short_text n f (Some x) e (text l) = left (subst n.holds (sym (e x)) l)
 
@@ -87,15 +91,21 @@ hex_short (suc k) v x n h = short_bind n n (λ p. hex_from k p.0 p.1) (hex_step 
 
 brace_short : (v : ℕ) (x : Text) (n : Tails) → n.holds x → Short n (hex_to_brace v x)
 brace_short v [] n h = nothing
-brace_short v (c ∷ x) n h = short_if (c == 125) (left (n.next c x h)) (bind_digit n (λ d. hex_to_brace (16 * v + d) x) (hex_value c) (λ d. brace_short (16 * v + d) x n (n.next c x h)))
+brace_short v (c ∷ x) n h =
+    short_if (c == 125) (left (n.next c x h)) (bind_digit n (λ d. hex_to_brace (16 * v + d) x) (hex_value c)
+    (λ d. brace_short (16 * v + d) x n (n.next c x h)))
 
 code_point_short : (x : Text) (n : Tails) → n.holds x → Short n (code_point x)
 unfolding code_point
-code_point_short x n h = short_if (is_at 125 x) nothing (short_bind n n if_code_point (hex_to_brace 0 x) (brace_short 0 x n h) (λ p l. short_if (nat_le p.0 1114111) (left l) nothing))
+code_point_short x n h =
+    short_if (is_at 125 x) nothing (short_bind n n if_code_point (hex_to_brace 0 x) (brace_short 0 x n h)
+    (λ p l. short_if (nat_le p.0 1114111) (left l) nothing))
 
 trail_short : (x : Text) (n : Tails) → n.holds x → Short n (trail x)
 unfolding trail hex
-trail_short x n h = short_if (is_at 92 x && is_at 117 (drop 1 x)) (short_bind n n if_trail (hex_from 4 0 (drop 2 x)) (hex_short 4 0 (drop 2 x) n (drop_less 2 n x h)) (λ p l. short_if (is_trail p.0) (left l) nothing)) nothing
+trail_short x n h =
+    short_if (is_at 92 x && is_at 117 (drop 1 x)) (short_bind n n if_trail (hex_from 4 0 (drop 2 x))
+    (hex_short 4 0 (drop 2 x) n (drop_less 2 n x h)) (λ p l. short_if (is_trail p.0) (left l) nothing)) nothing
 
 paired_short : (p : ℕ × Text) (n : Tails) → n.holds p.1 → n.holds (paired p).1
 unfolding paired
@@ -115,7 +125,8 @@ map_short n (Some p) (left l) = left (paired_short p n l)
 
 unicode_short : (x : Text) (n : Tails) → n.holds x → Short n (unicode_escape x)
 unfolding unicode_escape hex
-unicode_short x n h = short_if (is_at 123 x) (code_point_short (drop 1 x) n (drop_less 1 n x h)) (map_short n (hex_from 4 0 x) (hex_short 4 0 x n h))
+unicode_short x n h = short_if (is_at 123 x) (code_point_short (drop 1 x) n (drop_less 1 n x h))
+    (map_short n (hex_from 4 0 x) (hex_short 4 0 x n h))
 
 control_short : (x : Text) (n : Tails) → n.holds x → Short n (control x)
 unfolding control
@@ -125,8 +136,10 @@ control_short (c ∷ x) n h = short_if (is_ascii_letter c) (left (n.next c x h))
 pub character_short : (c : ℕ) (x : Text) (n : Tails) → n.holds x → Short n (character_escape c x)
 unfolding character_escape hex
 character_short c x n h =
-    short_if (c == 102) (left h) (short_if (c == 110) (left h) (short_if (c == 114) (left h) (short_if (c == 116) (left h) (short_if (c == 118) (left h)
-    (short_if (c == 99) (control_short x n h) (short_if (c == 48) (short_if (digit_at x) nothing (left h)) (short_if (c == 120) (hex_short 2 0 x n h)
+    short_if (c == 102) (left h)
+    (short_if (c == 110) (left h) (short_if (c == 114) (left h) (short_if (c == 116) (left h) (short_if (c == 118) (left h)
+    (short_if (c == 99) (control_short x n h) (short_if (c == 48) (short_if (digit_at x) nothing (left h))
+    (short_if (c == 120) (hex_short 2 0 x n h)
     (short_if (c == 117) (unicode_short x n h) (short_if (is_alphanumeric c) nothing (left h))))))))))
 
 if_less : (n : Tails) (b : Bool) (x y : Text) → n.holds x → n.holds y → n.holds (if b then x else y)
@@ -148,7 +161,8 @@ pub property_less : (x : Text) (n : Tails) → n.holds x → Less n (past_proper
 unfolding past_property
 property_less x n h =
     less_if (is_at 123 x) (less_bind n n property_end (word (drop 1 x)) (one_word (drop 1 x) n (drop_less 1 n x h)) (λ y l.
-    less_if (is_at 61 y) (less_bind n n (past 125) (word (drop 1 y)) (one_word (drop 1 y) n (drop_less 1 n y l)) (λ z m. past_less 125 z n m)) (past_less 125 y n l))) no_text
+    less_if (is_at 61 y) (less_bind n n (past 125) (word (drop 1 y)) (one_word (drop 1 y) n (drop_less 1 n y l))
+    (λ z m. past_less 125 z n m)) (past_less 125 y n l))) no_text
 
 pub name_character_short : (x : Text) (n : Tails) → After n x → Short n (name_character x)
 unfolding name_character
@@ -162,7 +176,8 @@ name_character_short (c ∷ x) n h =
 pub name_part_short : (x : Text) (n : Tails) → After n x → Short n (name_part x)
 unfolding name_part
 name_part_short x n h =
-    short_bind n n (if_part goes_on_name) (name_character x) (name_character_short x n h) (λ q k. short_if (goes_on_name q.0) (left k) nothing)
+    short_bind n n (if_part goes_on_name) (name_character x) (name_character_short x n h)
+    (λ q k. short_if (goes_on_name q.0) (left k) nothing)
 
 escape_short : (c : ℕ) (x : Text) (n : Tails) (o : Option Escape) → n.holds x → Short n (escape_or_code c x o)
 escape_short c x n (Some e) h = left h

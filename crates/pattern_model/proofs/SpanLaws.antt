@@ -16,9 +16,11 @@ after_first x = ([], refl, refl)
 
 -- what is left is so long that it tells how much stands before it
 pub after_bytes : (x y : Text) (at : ℕ) → IsAfter x at y → at + length (encodes y) ≡ length (encodes x)
-after_bytes x y at (front, e, n) = let b = bytes_append front y in let k : length (encodes x) ≡ length (encodes (front ++ y)) = ap (λ z. length (encodes z)) e in omega arith
+after_bytes x y at (front, e, n) = let b = bytes_append front y in let k : length (encodes x) ≡ length (encodes (front ++ y)) =
+    ap (λ z. length (encodes z)) e in omega arith
 
-pub after_tail : (x y z front : Text) (at next : ℕ) → IsAfter x at y → y ≡ front ++ z → next + length (encodes z) ≡ length (encodes x) → IsAfter x next z
+pub after_tail : (x y z front : Text) (at next : ℕ) → IsAfter x at y → y ≡ front ++ z → next + length (encodes z) ≡ length (encodes x) →
+    IsAfter x next z
 after_tail x y z front at next (before, e, n) f k =
     let all : x ≡ (before ++ front) ++ z = e ∙ (ap (λ w. before ++ w) f ∙ sym (append_assoc before front z)) in
     let b = bytes_append (before ++ front) z in

@@ -27,10 +27,13 @@ pair_less n false p q h g = g
 
 digits_short : (v : ℕ) (x : Text) (n : Tails) → n.holds x → n.holds (digits_from v x).1
 digits_short v [] n h = h
-digits_short v (c ∷ x) n h = pair_less n (is_digit c) (digits_from (10 * v + (c - 48)) x) (v, c ∷ x) (digits_short (10 * v + (c - 48)) x n (n.next c x h)) h
+digits_short v (c ∷ x) n h = pair_less n (is_digit c) (digits_from (10 * v + (c - 48)) x) (v, c ∷ x)
+    (digits_short (10 * v + (c - 48)) x n (n.next c x h)) h
 
 most_short : (v : ℕ) (p : ℕ × Text) (n : Tails) → n.holds p.1 → Short n (most_from v p)
-most_short v p n h = short_if (nat_le v p.0 && is_at 125 p.1) (left (quantifier_short (count_of v) (Some (count_of p.0)) (drop 1 p.1) n (drop_less 1 n p.1 h))) nothing
+most_short v p n h =
+    short_if (nat_le v p.0 && is_at 125 p.1)
+    (left (quantifier_short (count_of v) (Some (count_of p.0)) (drop 1 p.1) n (drop_less 1 n p.1 h))) nothing
 
 comma_short : (v : ℕ) (x : Text) (n : Tails) → n.holds x → Short n (after_comma v x)
 unfolding after_comma digits
@@ -72,7 +75,8 @@ many_short : {A : Type 0} (n : Tails) (stop : Text → Bool) (one : Text → Opt
 unfolding many
 many_short n stop one s x h = many_in_short n stop one s (suc (length x)) x h
 
-drop_short : {A B : Type 0} (n : Tails) (f : A × Text → B × Text) (o : Option (A × Text)) → ((p : A × Text) → (f p).1 ≡ drop 1 p.1) → Short n o → Short n (option_map f o)
+drop_short : {A B : Type 0} (n : Tails) (f : A × Text → B × Text) (o : Option (A × Text)) → ((p : A × Text) → (f p).1 ≡ drop 1 p.1) →
+    Short n o → Short n (option_map f o)
 drop_short n f None e h = nothing
 drop_short n f (Some p) e (left l) = left (subst n.holds (sym (e p)) (drop_less 1 n p.1 l))
 
@@ -87,13 +91,15 @@ unfolding name name_parts
 name_short x n h =
     drop_short n past_bracket _ (λ p. refl)
     (short_bind n n (λ p. with_front p.0 (many (is_at 62) name_part p.1)) (name_start x) (start_short x n h)
-    (λ p l. front_short n p.0 (many (is_at 62) name_part p.1) (many_short n (is_at 62) name_part (λ y k. name_part_short y n (after_of n y k)) p.1 l)))
+    (λ p l. front_short n p.0 (many (is_at 62) name_part p.1)
+    (many_short n (is_at 62) name_part (λ y k. name_part_short y n (after_of n y k)) p.1 l)))
 
 bracketed_short : (x : Text) (n : Tails) → n.holds x → Short n (bracketed x)
 unfolding bracketed
 bracketed_short x n h =
     short_if (is_at 61 x) (left (drop_less 1 n x h))
-    (short_if (is_at 33 x) (left (drop_less 1 n x h)) (short_map n (λ p. opens (Mark.named p.0) p.1) (name x) (λ p. refl) (name_short x n h)))
+    (short_if (is_at 33 x) (left (drop_less 1 n x h)) (short_map n (λ p. opens (Mark.named p.0) p.1) (name x) (λ p. refl)
+    (name_short x n h)))
 
 marked_short : (x : Text) (n : Tails) → n.holds x → Short n (marked x)
 unfolding marked flags
@@ -101,7 +107,9 @@ marked_short x n h =
     short_if (is_at 58 x) (left (drop_less 1 n x h))
     (short_if (is_at 61 x) (left (drop_less 1 n x h))
     (short_if (is_at 33 x) (left (drop_less 1 n x h))
-    (short_if (is_at 60 x) (bracketed_short (drop 1 x) n (drop_less 1 n x h)) (short_text n (opens Mark.modified) (flags_from false false false false x) (λ y. refl) (flags_short false false false false x n h)))))
+    (short_if (is_at 60 x) (bracketed_short (drop 1 x) n (drop_less 1 n x h))
+    (short_text n (opens Mark.modified) (flags_from false false false false x) (λ y. refl)
+    (flags_short false false false false x n h)))))
 
 opening_short : (x : Text) (n : Tails) → n.holds x → Short n (opening x)
 unfolding opening
@@ -111,14 +119,15 @@ class_short : (wide : Bool) (x : Text) (n : Tails) → n.holds x → Short n (cl
 unfolding class_from class_items
 class_short wide x n h =
     let items : (y : Text) → n.holds y → Short n (many (is_at 93) (class_part wide) y) =
-        λ y k. many_short n (is_at 93) (class_part wide) (λ z l. class_part_short wide z n (after_of n z l)) y k in
+    λ y k. many_short n (is_at 93) (class_part wide) (λ z l. class_part_short wide z n (after_of n z l)) y k in
     short_if (is_at 94 x)
     (drop_short n (class_token true) _ (λ p. refl) (items (drop 1 x) (drop_less 1 n x h)))
     (drop_short n (class_token false) _ (λ p. refl) (items x h))
 
 back_name_short : (x : Text) (n : Tails) → n.holds x → Short n (back_name x)
 unfolding back_name
-back_name_short x n h = short_if (is_at 60 x) (short_map n leaf_of_name (name (drop 1 x)) (λ p. refl) (name_short (drop 1 x) n (drop_less 1 n x h))) nothing
+back_name_short x n h =
+    short_if (is_at 60 x) (short_map n leaf_of_name (name (drop 1 x)) (λ p. refl) (name_short (drop 1 x) n (drop_less 1 n x h))) nothing
 
 code_short : (c : ℕ) (x : Text) (n : Tails) (o : Option Escape) → n.holds x → Short n (escape_or_code c x o)
 code_short c x n (Some e) h = left h
@@ -153,17 +162,21 @@ token_short wide c x n h =
     (short_if (c == 92) (escaped_short x n h)
     (short_if (c == 93 || c == 125) (short_if wide (left h) nothing) (left h)))))))))))))
 
-
 -- being shorter than a number
 abbrev pub shorter : ℕ → Tails
 shorter k = record { holds = λ x. length x < k; next = λ c x h. omega arith }
 
 -- being a tail of a text
 abbrev pub tails_of : Text → Tails
-tails_of x = record { holds = λ y. (front : Text) × (x ≡ front ++ y); next = λ c y h. (h.0 ++ (c ∷ []), h.1 ∙ sym (append_assoc h.0 (c ∷ []) y)) }
+tails_of x = record {
+  holds = λ y. (front : Text) × (x ≡ front ++ y);
+  next =
+      λ c y h. (h.0 ++ (c ∷ []), h.1 ∙ sym (append_assoc h.0 (c ∷ []) y));
+}
 
 -- what follows a token is a tail of what follows its first character
-pub token_tail : (wide : Bool) (c : ℕ) (x rest : Text) (t : Token) → token_from wide c x ≡ Some (t, rest) → (front : Text) × (x ≡ front ++ rest)
+pub token_tail : (wide : Bool) (c : ℕ) (x rest : Text) (t : Token) → token_from wide c x ≡ Some (t, rest) →
+    (front : Text) × (x ≡ front ++ rest)
 token_tail wide c x rest t e = short_holds (tails_of x) (token_from wide c x) (t, rest) (token_short wide c x (tails_of x) ([], refl)) e
 
 -- each token takes a character at least
@@ -171,7 +184,8 @@ pub reads_few : (wide : Bool) (x : Text) (ts : List Token) → Reads wide x ts �
 reads_few wide x [] e = omega arith
 reads_few wide x (t ∷ ts) (c, after, rest, e, f, r) =
     let n : Tails = shorter (suc (length after)) in
-    let l : length rest < suc (length after) = short_holds n (token_from wide c after) (t, rest) (token_short wide c after n (omega arith)) f in
+    let l : length rest < suc (length after) = short_holds n (token_from wide c after) (t, rest) (token_short wide c after n (omega arith))
+    f in
     let i : length ts ≤ length rest = reads_few wide rest ts r in
     let k : length x ≡ suc (length after) = ap length e in
     omega arith

@@ -4,7 +4,8 @@ use Rattle.pattern_model.specs.Text.{Text, is_at}
 use Rattle.pattern_model.specs.GroupNames.{name}
 use Rattle.pattern_model.specs.Tree.{Mark, Token}
 
--- RegularExpressionModifiers and the colon: at least one of `i`, `m` and `s`, none twice, and at most one hyphen; which of them stood before is told
+-- RegularExpressionModifiers and the colon: at least one of `i`, `m` and `s`, none twice, and at most one hyphen; which of them
+-- stood before is told
 abbrev pub flags_from : Bool → Bool → Bool → Bool → Text → Option Text
 flags_from i m s hyphen [] = None
 flags_from i m s hyphen (c ∷ x) =

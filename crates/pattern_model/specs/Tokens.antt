@@ -73,7 +73,8 @@ token_from wide c x =
 -- the text is these tokens, one after the other
 abbrev pub Reads : Bool → Text → List Token → Type 0
 Reads wide x [] = x ≡ []
-Reads wide x (t ∷ ts) = (c : ℕ) × (after : Text) × (rest : Text) × (x ≡ c ∷ after) × (token_from wide c after ≡ Some (t, rest)) × Reads wide rest ts
+Reads wide x (t ∷ ts) = (c : ℕ) × (after : Text) × (rest : Text) × (x ≡ c ∷ after) × (token_from wide c after ≡ Some (t, rest)) ×
+    Reads wide rest ts
 
 -- the text has the tree: the shape alone, without the tests on names and numbers
 pub record Spells (wide : Bool) (x : Text) (t : Tree) : Type 0 where

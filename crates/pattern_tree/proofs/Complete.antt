@@ -42,7 +42,12 @@ begins_row f d = record { done = d; before = None; last = None }
 
 -- a row that is read from its beginning on is what the frame then has as its alternative
 load_row : (t : Tree) (d : Option Tree) → fits Level.row t ≡ true →
-    (b : Option Tree) × (l : Tree) × (load t (record { done = d; before = None; last = None }) ≡ record { done = d; before = b; last = Some l }) × (joined b l ≡ t)
+    (b : Option Tree) × (l : Tree) × (load t (record { done = d; before = None; last = None }) ≡ record {
+      done = d;
+      before = b;
+      last =
+          Some l;
+    }) × (joined b l ≡ t)
 load_row empty d h = cc
 load_row (leaf l) d h = (None, leaf l, refl, refl)
 load_row (group m t) d h = (None, group m t, refl, refl)
@@ -50,12 +55,22 @@ load_row (repeat t b) d h = (None, repeat t b, refl, refl)
 load_row (sequence l r) d h =
     let hl : fits Level.row l ≡ true = and_left _ _ h in
     let hr : fits Level.term r ≡ true = and_right _ _ h in
-    let (b, x, e, j) = load_row l d hl in
-    (Some l, r, load_term r (load l (begins_row fresh d)) hr ∙ (ap (push r) e ∙ ap (λ z. record { done = d; before = Some z; last = Some r }) j), refl)
+    let (b, x, e, j) = load_row l d hl in (
+      Some l,
+      r,
+      load_term r (load l (begins_row fresh d)) hr
+          ∙ (ap (push r) e ∙ ap (λ z. record { done = d; before = Some z; last = Some r }) j),
+      refl,
+    )
 load_row (either l r) d h = cc
 
 load_alternative : (t : Tree) (d : Option Tree) → fits Level.alternative t ≡ true →
-    (b : Option Tree) × (l : Option Tree) × (load t (record { done = d; before = None; last = None }) ≡ record { done = d; before = b; last = l }) × (alternative_of b l ≡ t)
+    (b : Option Tree) × (l : Option Tree) × (load t (record { done = d; before = None; last = None }) ≡ record {
+      done = d;
+      before =
+          b;
+      last = l;
+    }) × (alternative_of b l ≡ t)
 load_alternative empty d h = (None, None, refl, refl)
 load_alternative (leaf l) d h = (None, Some (leaf l), refl, refl)
 load_alternative (group m t) d h = (None, Some (group m t), refl, refl)

@@ -18,7 +18,8 @@ use Rattle.pattern_tree.specs.Forms.{IsPart, IsForm, shape_form}
 use Rattle.pattern_tree.proofs.NodeLemmas.{shape_at, tree_at_adds}
 use Rattle.pattern_tree.proofs.SpanSteps.{parts_at}
 
-pub fact_at : {A : Type 0} (fact : Tree → A) (ns : List Node) (i : ℕ) (n : Node) (r : A) → i < length ns → n ≡ get_or ns i n → ((us : List Tree) → r ≡ fact (built us n.shape)) → r ≡ fact (tree_at (trees_of ns) i)
+pub fact_at : {A : Type 0} (fact : Tree → A) (ns : List Node) (i : ℕ) (n : Node) (r : A) → i < length ns → n ≡ get_or ns i n →
+    ((us : List Tree) → r ≡ fact (built us n.shape)) → r ≡ fact (tree_at (trees_of ns) i)
 fact_at fact ns i n r h e g = let (us, l, a, k) = shape_at ns i n h in g us ∙ ap fact (sym (k ∙ ap (λ z. built us z.shape) (sym e)))
 
 is_below : (i n : ℕ) → nat_lt i n ≡ true → i < n
@@ -31,7 +32,8 @@ both false b e = cc
 abbrev as_id : ℕ → NodeId
 as_id i = record { 0 = i }
 
-module _ (p : Pattern) (id : NodeId) (here : HasNode p id) (us : List Tree) (same : (i : ℕ) → i < id.0 → tree_at us i ≡ tree_at (trees_of p.nodes.items) i) where
+module _ (p : Pattern) (id : NodeId) (here : HasNode p id) (us : List Tree) (same : (i : ℕ) → i < id.0 →
+    tree_at us i ≡ tree_at (trees_of p.nodes.items) i) where
   part : (i : ℕ) → nat_lt i id.0 ≡ true → IsPart p id (as_id i)
   part i e = let l = is_below i id.0 e in record { node = omega arith; below = l }
 
@@ -54,11 +56,19 @@ module _ (p : Pattern) (id : NodeId) (here : HasNode p id) (us : List Tree) (sam
   is_form (shapes.Group m i) b e = (part i b, (mark_of m, e ∙ ap (Tree.group (mark_of m)) (same i (is_below i id.0 b)), refl))
   is_form (shapes.Repeat i c) b e = (part i b, e ∙ ap (λ z. Tree.repeat z (bounds_of c)) (same i (is_below i id.0 b)))
   is_form (shapes.Sequence i j) b e =
-      let two = both (nat_lt i id.0) (nat_lt j id.0) b in
-      (part i two.0, part j two.1, e ∙ (ap (λ z. Tree.sequence z (tree_at us j)) (same i (is_below i id.0 two.0)) ∙ ap (Tree.sequence (tree_at (trees_of p.nodes.items) i)) (same j (is_below j id.0 two.1))))
+      let two = both (nat_lt i id.0) (nat_lt j id.0) b in (
+        part i two.0,
+        part j two.1,
+        e ∙ (ap (λ z. Tree.sequence z (tree_at us j)) (same i (is_below i id.0 two.0))
+            ∙ ap (Tree.sequence (tree_at (trees_of p.nodes.items) i)) (same j (is_below j id.0 two.1))),
+      )
   is_form (shapes.Either i j) b e =
-      let two = both (nat_lt i id.0) (nat_lt j id.0) b in
-      (part i two.0, part j two.1, e ∙ (ap (λ z. Tree.either z (tree_at us j)) (same i (is_below i id.0 two.0)) ∙ ap (Tree.either (tree_at (trees_of p.nodes.items) i)) (same j (is_below j id.0 two.1))))
+      let two = both (nat_lt i id.0) (nat_lt j id.0) b in (
+        part i two.0,
+        part j two.1,
+        e ∙ (ap (λ z. Tree.either z (tree_at us j)) (same i (is_below i id.0 two.0))
+            ∙ ap (Tree.either (tree_at (trees_of p.nodes.items) i)) (same j (is_below j id.0 two.1))),
+      )
 
 -- the form of a node is that of its shape
 pub form_at : (p : Pattern) (id : NodeId) (n : Node) → HasNode p id → n ≡ get_or p.nodes.items id.0 n → IsForm p id (shape_form n.shape)
@@ -68,5 +78,6 @@ form_at p id n h e =
     (subst (λ z. parts_below id.0 z.shape ≡ true) (sym e) (parts_at p.nodes.items id.0 n p.after_parts h))
     (k ∙ ap (λ z. built us z.shape) (sym e))
   where
-    same : (us : List Tree) → length us ≡ id.0 → Adds us (trees_of p.nodes.items) → (i : ℕ) → i < id.0 → tree_at us i ≡ tree_at (trees_of p.nodes.items) i
+    same : (us : List Tree) → length us ≡ id.0 → Adds us (trees_of p.nodes.items) → (i : ℕ) → i < id.0 →
+        tree_at us i ≡ tree_at (trees_of p.nodes.items) i
     same us l a i lt = sym (tree_at_adds us (trees_of p.nodes.items) i a (omega arith))

@@ -26,7 +26,8 @@ same_pair p q o e f = let g : p ≡ q = cc in (ap (λ z. z.0) g, ap (λ z. z.1) 
 
 named_on : (t : Token) (ts : List Token) (s n : State) → allowed t s ≡ true → step t s ≡ Some n → run_named (t ∷ ts) s ≡ run_named ts n
 unfolding run_named
-named_on t ts s n a e = ap (λ z. if z then option_and_then (λ m. run_named ts m) (step t s) else None) a ∙ ap (option_and_then (λ m. run_named ts m)) e
+named_on t ts s n a e = ap (λ z. if z then option_and_then (λ m. run_named ts m) (step t s) else None) a
+    ∙ ap (option_and_then (λ m. run_named ts m)) e
 
 if_none : {A : Type 0} (b : Bool) (o : Option A) → o ≡ None → (if b then o else None) ≡ None
 if_none true o e = e
@@ -86,30 +87,45 @@ module _ (wide : Bool) where
   first_token c after [] e = cc
   first_token c after (t ∷ us) (d, other, rest, e, f, r) =
       let g : d ≡ c = cc in
-      let h : other ≡ after = cc in
-      (t, rest, us, subst (λ z. token_from wide z after ≡ Some (t, rest)) g (subst (λ z. token_from wide d z ≡ Some (t, rest)) h f), r, refl)
+      let h : other ≡ after = cc in (
+        t,
+        rest,
+        us,
+        subst (λ z. token_from wide z after ≡ Some (t, rest)) g (subst (λ z. token_from wide d z ≡ Some (t, rest)) h f),
+        r,
+        refl,
+      )
 
-  pub leads_on : (x : Text) (s n : State) (c : ℕ) (after rest : Text) (t : Token) → Leads x s (c ∷ after) → token_from wide c after ≡ Some (t, rest) → allowed t s ≡ true → step t s ≡ Some n → Leads x n rest
+  pub leads_on : (x : Text) (s n : State) (c : ℕ) (after rest : Text) (t : Token) → Leads x s (c ∷ after) →
+      token_from wide c after ≡ Some (t, rest) → allowed t s ≡ true → step t s ≡ Some n → Leads x n rest
   leads_on x s n c after rest t l e a f =
       let g : Goes s n t = step_goes t s n f l.fine in
       record {
         fine = g.fine;
-        taken = λ ts r. subst (λ z. Reads wide x z) (sym (ap (λ z. z ++ ts) g.spelled ∙ append_assoc (spelled s) (t ∷ []) ts)) (l.taken (t ∷ ts) (c, after, rest, refl, e, r));
-        reached = λ ts. ap (λ z. run_named z begin) (ap (λ z. z ++ ts) g.spelled ∙ append_assoc (spelled s) (t ∷ []) ts) ∙ (l.reached (t ∷ ts) ∙ named_on t ts s n a f);
+        taken = λ ts r. subst (λ z. Reads wide x z) (sym (ap (λ z. z ++ ts) g.spelled ∙ append_assoc (spelled s) (t ∷ []) ts))
+            (l.taken (t ∷ ts) (c, after, rest, refl, e, r));
+        reached = λ ts. ap (λ z. run_named z begin) (ap (λ z. z ++ ts) g.spelled ∙ append_assoc (spelled s) (t ∷ []) ts)
+            ∙ (l.reached (t ∷ ts) ∙ named_on t ts s n a f);
         only = λ tree h b.
             let (ts, r, u) = l.only tree h b in
             let (t2, rest2, us, e2, r2, same) = first_token c after ts r in
-            let (token, others) = same_pair (t2, rest2) (t, rest) (token_from wide c after) e2 e in
-            (us, subst (λ z. Reads wide z us) others r2, sym (named_on t us s n a f) ∙ (ap (λ z. run_named (z ∷ us) s) (sym token) ∙ (ap (λ z. run_named z s) (sym same) ∙ u)));
+            let (token, others) = same_pair (t2, rest2) (t, rest) (token_from wide c after) e2 e in (
+              us,
+              subst (λ z. Reads wide z us) others r2,
+              sym (named_on t us s n a f)
+                  ∙ (ap (λ z. run_named (z ∷ us) s) (sym token) ∙ (ap (λ z. run_named z s) (sym same) ∙ u)),
+            );
       }
 
   -- no token stands next: no tree
-  pub refused_token : (x : Text) (s : State) (c : ℕ) (after : Text) → Leads x s (c ∷ after) → token_from wide c after ≡ None → (t : Tree) → Grammar wide x t → ⊥
+  pub refused_token : (x : Text) (s : State) (c : ℕ) (after : Text) → Leads x s (c ∷ after) → token_from wide c after ≡ None → (t : Tree) →
+      Grammar wide x t → ⊥
   refused_token x s c after l e tree g =
       let (ts, r, u) = l.only tree g.spells g.apart in
       let (t2, rest2, us, e2, r2, same) = first_token c after ts r in cc
 
-  stuck : (x : Text) (s : State) (c : ℕ) (after rest : Text) (t : Token) → Leads x s (c ∷ after) → token_from wide c after ≡ Some (t, rest) → ((ts : List Token) → run_named (t ∷ ts) s ≡ None) → (tree : Tree) → Grammar wide x tree → ⊥
+  stuck : (x : Text) (s : State) (c : ℕ) (after rest : Text) (t : Token) → Leads x s (c ∷ after) →
+      token_from wide c after ≡ Some (t, rest) → ((ts : List Token) → run_named (t ∷ ts) s ≡ None) → (tree : Tree) → Grammar wide x tree → ⊥
   stuck x s c after rest t l e f tree g =
       let (ts, r, u) = l.only tree g.spells g.apart in
       let (t2, rest2, us, e2, r2, same) = first_token c after ts r in
@@ -117,11 +133,13 @@ module _ (wide : Bool) where
       let none : run_named ts s ≡ None = ap (λ z. run_named z s) same ∙ (ap (λ z. run_named (z ∷ us) s) token ∙ f us) in cc
 
   -- the next token can't come here: no tree
-  pub refused_step : (x : Text) (s : State) (c : ℕ) (after rest : Text) (t : Token) → Leads x s (c ∷ after) → token_from wide c after ≡ Some (t, rest) → step t s ≡ None → (tree : Tree) → Grammar wide x tree → ⊥
+  pub refused_step : (x : Text) (s : State) (c : ℕ) (after rest : Text) (t : Token) → Leads x s (c ∷ after) →
+      token_from wide c after ≡ Some (t, rest) → step t s ≡ None → (tree : Tree) → Grammar wide x tree → ⊥
   refused_step x s c after rest t l e f tree g = stuck x s c after rest t l e (λ ts. named_stuck t ts s f) tree g
 
   -- the next group can't have its name: no tree
-  pub refused_name : (x : Text) (s : State) (c : ℕ) (after rest : Text) (t : Token) → Leads x s (c ∷ after) → token_from wide c after ≡ Some (t, rest) → allowed t s ≡ false → (tree : Tree) → Grammar wide x tree → ⊥
+  pub refused_name : (x : Text) (s : State) (c : ℕ) (after rest : Text) (t : Token) → Leads x s (c ∷ after) →
+      token_from wide c after ≡ Some (t, rest) → allowed t s ≡ false → (tree : Tree) → Grammar wide x tree → ⊥
   refused_name x s c after rest t l e f tree g = stuck x s c after rest t l e (λ ts. named_refused t ts s f) tree g
 
   no_tokens : (ts : List Token) → Reads wide [] ts → ts ≡ []
@@ -137,22 +155,28 @@ module _ (wide : Bool) where
       let below : ts ≡ vs = same_tokens ts vs rest r (subst (λ z. Reads wide z vs) (sym others) r2) in
       cc
 
-  high_number : (t : Token) (front us : List Token) (tree : Tree) → IsHigh t → tokens_of tree ≡ front ++ (t ∷ us) → in_number (captures tree) (numbers tree) ≡ true → 4294967296 ≤ captures tree
+  high_number : (t : Token) (front us : List Token) (tree : Tree) → IsHigh t → tokens_of tree ≡ front ++ (t ∷ us) →
+      in_number (captures tree) (numbers tree) ≡ true → 4294967296 ≤ captures tree
   high_number (Token.leaf (Leaf.back_number n)) front us tree h e k =
-      let m : numbers tree ≡ numbers_in front ++ (n ∷ numbers_in us) = sym (numbers_tokens tree) ∙ (ap numbers_in e ∙ numbers_append front (Token.leaf (Leaf.back_number n) ∷ us)) in
-      let p : nat_le n (captures tree) ≡ true = all_middle (λ z. nat_le z (captures tree)) (numbers_in front) n (numbers_in us) (subst (λ z. list_all (λ z. nat_le z (captures tree)) z ≡ true) m k) in
+      let m : numbers tree ≡ numbers_in front ++ (n ∷ numbers_in us) = sym (numbers_tokens tree)
+      ∙ (ap numbers_in e ∙ numbers_append front (Token.leaf (Leaf.back_number n) ∷ us)) in
+      let p : nat_le n (captures tree) ≡ true = all_middle (λ z. nat_le z (captures tree)) (numbers_in front) n (numbers_in us)
+      (subst (λ z. list_all (λ z. nat_le z (captures tree)) z ≡ true) m k) in
       let q : n ≤ captures tree = leb-true n (captures tree) p in omega arith
   high_number t front us tree h e k = absurd h
 
   -- the next token is a back-reference whose number no group has: no tree
-  pub refused_high : (x : Text) (s : State) (c : ℕ) (after rest : Text) (t : Token) → Leads x s (c ∷ after) → token_from wide c after ≡ Some (t, rest) → IsHigh t → length x < 4294967296 → (tree : Tree) → Grammar wide x tree → ⊥
+  pub refused_high : (x : Text) (s : State) (c : ℕ) (after rest : Text) (t : Token) → Leads x s (c ∷ after) →
+      token_from wide c after ≡ Some (t, rest) → IsHigh t → length x < 4294967296 → (tree : Tree) → Grammar wide x tree → ⊥
   refused_high x s c after rest t l e h small tree g =
       let (ts, r, u) = l.only tree g.spells g.apart in
       let (t2, rest2, us, e2, r2, same) = first_token c after ts r in
       let (token, others) = same_pair (t2, rest2) (t, rest) (token_from wide c after) e2 e in
-      let all : tokens_of tree ≡ spelled s ++ (t ∷ us) = same_tokens (tokens_of tree) (spelled s ++ ts) x g.spells.reads (l.taken ts r) ∙ ap (λ z. spelled s ++ z) (same ∙ ap (λ z. z ∷ us) token) in
+      let all : tokens_of tree ≡ spelled s ++ (t ∷ us) = same_tokens (tokens_of tree) (spelled s ++ ts) x g.spells.reads (l.taken ts r)
+      ∙ ap (λ z. spelled s ++ z) (same ∙ ap (λ z. z ∷ us) token) in
       let big : 4294967296 ≤ captures tree = high_number t (spelled s) us tree h all g.numbered in
-      let few : captures tree ≤ length (tokens_of tree) = subst (λ z. z ≤ length (tokens_of tree)) (captures_tokens tree) (captures_few (tokens_of tree)) in
+      let few : captures tree ≤ length (tokens_of tree) =
+      subst (λ z. z ≤ length (tokens_of tree)) (captures_tokens tree) (captures_few (tokens_of tree)) in
       let short : length (tokens_of tree) ≤ length x = reads_few wide x (tokens_of tree) g.spells.reads in
       omega arith
 
@@ -167,7 +191,8 @@ module _ (wide : Bool) where
       let h : Shaped (spelled s) t = finished_shaped s.here s.outer t e l.fine in
       record {
         spells = record { fits = h.fits; reads = subst (λ z. Reads wide x z) (append-nil (spelled s) ∙ sym h.tokens) (l.taken [] refl) };
-        apart = if_some (apart t) t (sym (named_again t h.fits) ∙ (ap (λ z. run_named z begin) (h.tokens ∙ sym (append-nil (spelled s))) ∙ (l.reached [] ∙ (named_end s ∙ e))));
+        apart = if_some (apart t) t (sym (named_again t h.fits) ∙ (ap (λ z. run_named z begin) (h.tokens ∙ sym (append-nil (spelled s)))
+            ∙ (l.reached [] ∙ (named_end s ∙ e))));
         tokens = h.tokens;
       }
 

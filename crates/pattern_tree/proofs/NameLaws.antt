@@ -16,7 +16,8 @@ and_assoc false b c = refl
 
 disjoint_append : (xs ys zs : List Name) → disjoint (xs ++ ys) zs ≡ disjoint xs zs && disjoint ys zs
 disjoint_append [] ys zs = refl
-disjoint_append (a ∷ xs) ys zs = ap (λ z. not (is_in a zs) && z) (disjoint_append xs ys zs) ∙ sym (and_assoc (not (is_in a zs)) (disjoint xs zs) (disjoint ys zs))
+disjoint_append (a ∷ xs) ys zs = ap (λ z. not (is_in a zs) && z) (disjoint_append xs ys zs)
+    ∙ sym (and_assoc (not (is_in a zs)) (disjoint xs zs) (disjoint ys zs))
 
 or_assoc : (a b c : Bool) → (a || b) || c ≡ a || (b || c)
 or_assoc true b c = refl
@@ -24,7 +25,8 @@ or_assoc false b c = refl
 
 pub in_append : (a : Name) (ys zs : List Name) → is_in a (ys ++ zs) ≡ is_in a ys || is_in a zs
 in_append a [] zs = refl
-in_append a (y ∷ ys) zs = ap (λ z. pointwise nat_eq a y || z) (in_append a ys zs) ∙ sym (or_assoc (pointwise nat_eq a y) (is_in a ys) (is_in a zs))
+in_append a (y ∷ ys) zs = ap (λ z. pointwise nat_eq a y || z) (in_append a ys zs)
+    ∙ sym (or_assoc (pointwise nat_eq a y) (is_in a ys) (is_in a zs))
 
 -- not (a || b) && (c && d), sorted
 four : (a b c d : Bool) → not (a || b) && (c && d) ≡ (not a && c) && (not b && d)
@@ -140,10 +142,12 @@ atom_alternative (sequence l r) h = cc
 atom_alternative (either l r) h = cc
 
 bits_group : (m : Mark) (t : Tree) (f : Frame) (os : List Outer) →
-    disjoint (mark_names m) (live (with_here os f)) && may t (with_here (record { mark = m; frame = f } ∷ os) fresh) ≡ may (group m t) (with_here os f)
+    disjoint (mark_names m) (live (with_here os f)) && may t (with_here (record { mark = m; frame = f } ∷ os) fresh) ≡ may (group m t)
+    (with_here os f)
 bits_group m t f os =
     let s = live (with_here os f) in
-    let e : live (with_here (record { mark = m; frame = f } ∷ os) fresh) ≡ s ++ mark_names m = append-nil _ ∙ sym (append_assoc (live_outer os) (live_frame f) (mark_names m)) in
+    let e : live (with_here (record { mark = m; frame = f } ∷ os) fresh) ≡ s ++ mark_names m = append-nil _
+    ∙ sym (append_assoc (live_outer os) (live_frame f) (mark_names m)) in
     ap (λ z. disjoint (mark_names m) s && (apart t && z)) (ap (disjoint (names t)) e ∙ disjoint_both (names t) s (mark_names m))
     ∙ (group_bits (disjoint (mark_names m) s) (apart t) (disjoint (names t) s) (disjoint (names t) (mark_names m))
     ∙ ap (λ z. (apart t && disjoint (names t) (mark_names m)) && z) (sym (disjoint_append (mark_names m) (names t) s)))
@@ -152,7 +156,8 @@ bits_row : (l r : Tree) (f : Frame) (os : List Outer) → fits Level.alternative
     may l (with_here os f) && may r (with_here os (load l f)) ≡ may (sequence l r) (with_here os f)
 bits_row l r f os h =
     let s = live (with_here os f) in
-    let e : live (with_here os (load l f)) ≡ s ++ names l = ap (λ z. live_outer os ++ z) (live_load l f h) ∙ sym (append_assoc (live_outer os) (live_frame f) (names l)) in
+    let e : live (with_here os (load l f)) ≡ s ++ names l = ap (λ z. live_outer os ++ z) (live_load l f h)
+    ∙ sym (append_assoc (live_outer os) (live_frame f) (names l)) in
     ap (λ z. may l (with_here os f) && (apart r && z)) (ap (disjoint (names r)) e ∙ disjoint_both (names r) s (names l))
     ∙ (row_bits (apart l) (disjoint (names l) s) (apart r) (disjoint (names r) s) (disjoint (names r) (names l))
     ∙ ap (λ z. (apart l && (apart r && disjoint (names r) (names l))) && z) (sym (disjoint_append (names l) (names r) s)))
@@ -161,7 +166,8 @@ bits_either : (l r : Tree) (f : Frame) (os : List Outer) → f.before ≡ None �
     may l (with_here os f) && may r (with_here os (barred (load l f))) ≡ may (either l r) (with_here os f)
 bits_either l r f os a b =
     let s = live (with_here os f) in
-    let e : live (with_here os (barred (load l f))) ≡ s = ap (λ z. live_outer os ++ (opt_names z ++ [])) (sym a) ∙ ap (λ z. live_outer os ++ (opt_names f.before ++ opt_names z)) (sym b) in
+    let e : live (with_here os (barred (load l f))) ≡ s = ap (λ z. live_outer os ++ (opt_names z ++ [])) (sym a)
+    ∙ ap (λ z. live_outer os ++ (opt_names f.before ++ opt_names z)) (sym b) in
     ap (λ z. may l (with_here os f) && (apart r && disjoint (names r) z)) e
     ∙ (either_bits (apart l) (disjoint (names l) s) (apart r) (disjoint (names r) s)
     ∙ ap (λ z. (apart l && apart r) && z) (sym (disjoint_append (names l) (names r) s)))
@@ -179,7 +185,8 @@ named_load k (group m t) rest f os h g =
     (ap (λ z. run_named z (with_here (o ∷ os) fresh)) (append_assoc (tokens_of t) (Token.closes ∷ []) rest)
     ∙ (named_load Level.disjunction t (Token.closes ∷ rest) fresh (o ∷ os) ht (starts_open t fresh refl refl)
     ∙ if_then (may t (with_here (o ∷ os) fresh)) _ _ None (ap (λ z. run_named rest (with_here os (push (group m z) f))) whole_is)))
-    ∙ (if_and (disjoint (mark_names m) (live (with_here os f))) (may t (with_here (o ∷ os) fresh)) (run_named rest (with_here os (push (group m t) f)))
+    ∙ (if_and (disjoint (mark_names m) (live (with_here os f))) (may t (with_here (o ∷ os) fresh))
+    (run_named rest (with_here os (push (group m t) f)))
     ∙ if_test _ _ (run_named rest (with_here os (push (group m t) f))) (bits_group m t f os))
 named_load k (repeat t b) rest f os h g =
     let ht : fits Level.atom t ≡ true = and_right _ _ h in
@@ -194,15 +201,18 @@ named_load k (sequence l r) rest f os h g =
     let hr : fits Level.alternative r ≡ true = row_alternative r (term_row r (and_right _ _ two)) in
     ap (λ z. run_named z (with_here os f)) (append_assoc (tokens_of l) (tokens_of r) rest)
     ∙ (named_load Level.row l (tokens_of r ++ rest) f os (and_left _ _ two) (starts_any l f hl)
-    ∙ (if_then (may l (with_here os f)) _ _ None (named_load Level.term r rest (load l f) os (and_right _ _ two) (starts_any r (load l f) hr))
+    ∙ (if_then (may l (with_here os f)) _ _ None (named_load Level.term r rest (load l f) os (and_right _ _ two)
+    (starts_any r (load l f) hr))
     ∙ (if_and (may l (with_here os f)) (may r (with_here os (load l f))) (run_named rest (with_here os (load r (load l f))))
     ∙ if_test _ _ (run_named rest (with_here os (load r (load l f)))) (bits_row l r f os hl))))
 named_load k (either l r) rest f os h (a, b) =
     let two : fits Level.disjunction l && fits Level.alternative r ≡ true = and_right _ _ h in
     ap (λ z. run_named z (with_here os f)) (append_assoc (tokens_of l) (Token.bar ∷ tokens_of r) rest)
     ∙ (named_load Level.disjunction l (Token.bar ∷ tokens_of r ++ rest) f os (and_left _ _ two) (starts_open l f a b)
-    ∙ (if_then (may l (with_here os f)) _ _ None (named_load Level.alternative r rest (barred (load l f)) os (and_right _ _ two) (starts_any r (barred (load l f)) (and_right _ _ two)))
-    ∙ (if_and (may l (with_here os f)) (may r (with_here os (barred (load l f)))) (run_named rest (with_here os (load r (barred (load l f)))))
+    ∙ (if_then (may l (with_here os f)) _ _ None (named_load Level.alternative r rest (barred (load l f)) os (and_right _ _ two)
+    (starts_any r (barred (load l f)) (and_right _ _ two)))
+    ∙ (if_and (may l (with_here os f)) (may r (with_here os (barred (load l f))))
+    (run_named rest (with_here os (load r (barred (load l f)))))
     ∙ if_test _ _ (run_named rest (with_here os (load r (barred (load l f))))) (bits_either l r f os a b))))
 
 -- the reading with names gives the tree exactly where its names are apart

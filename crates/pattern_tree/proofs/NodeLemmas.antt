@@ -56,7 +56,12 @@ in_option_more m n None le h = tt
 in_option_more m n (Some i) le h = omega arith
 
 pub in_part_more : (m n : ℕ) (p : Part) → m ≤ n → InPart m p → InPart n p
-in_part_more m n p le h = record { done = in_option_more m n p.done le h.done; before = in_option_more m n p.before le h.before; last = in_option_more m n p.last le h.last }
+in_part_more m n p le h = record {
+  done = in_option_more m n p.done le h.done;
+  before = in_option_more m n p.before le h.before;
+  last =
+      in_option_more m n p.last le h.last;
+}
 
 pub adds_none : (ts : List Tree) → Adds ts ts
 adds_none ts = ([], sym (append-nil ts))
@@ -66,11 +71,13 @@ adds_twice a b c (m, e) (n, f) = (m ++ n, f ∙ (ap (λ z. z ++ n) e ∙ append_
 
 grown_adds : (ns : List Node) (ts : List Tree) → Adds ts (grown ts ns)
 grown_adds [] ts = adds_none ts
-grown_adds (n ∷ ns) ts = adds_twice ts (ts ++ (built ts n.shape ∷ [])) _ (built ts n.shape ∷ [], refl) (grown_adds ns (ts ++ (built ts n.shape ∷ [])))
+grown_adds (n ∷ ns) ts = adds_twice ts (ts ++ (built ts n.shape ∷ [])) _ (built ts n.shape ∷ [], refl)
+    (grown_adds ns (ts ++ (built ts n.shape ∷ [])))
 
 -- the shape at a place tells its tree, over the trees before it
 grown_at : (ns : List Node) (ts : List Tree) (i : ℕ) (d : Node) → i < length ns →
-    (us : List Tree) × (length us ≡ length ts + i) × Adds us (grown ts ns) × (tree_at (grown ts ns) (length ts + i) ≡ built us (get_or ns i d).shape)
+    (us : List Tree) × (length us ≡ length ts + i) × Adds us (grown ts ns) ×
+    (tree_at (grown ts ns) (length ts + i) ≡ built us (get_or ns i d).shape)
 grown_at [] ts i d h = absurd (omega arith)
 grown_at (n ∷ ns) ts zero d h =
     let t = built ts n.shape in
@@ -98,17 +105,30 @@ shape_at ns i d h =
 pub extended : (old new : List Node) (p : Part) (last before id : ℕ) → Adds (trees_of old) (trees_of new) →
     tree_at (trees_of new) before ≡ joined (opt_tree (trees_of old) p.before) (tree_at (trees_of old) last) →
     p.last ≡ Some last → InPart (length old) p → id < length old →
-    frame_of (trees_of new) (record { done = p.done; before = Some before; last = Some id }) ≡ push (tree_at (trees_of old) id) (frame_of (trees_of old) p)
+    frame_of (trees_of new) (record { done = p.done; before = Some before; last = Some id }) ≡ push (tree_at (trees_of old) id)
+    (frame_of (trees_of old) p)
 extended old new p last before id a e is fine h =
     let n : length (trees_of old) ≡ length old = length_trees old in
-    let d : opt_tree (trees_of new) p.done ≡ opt_tree (trees_of old) p.done = opt_tree_adds (trees_of old) (trees_of new) p.done a (subst (λ z. InOption z p.done) (sym n) fine.done) in
+    let d : opt_tree (trees_of new) p.done ≡ opt_tree (trees_of old) p.done =
+    opt_tree_adds (trees_of old) (trees_of new) p.done a (subst (λ z. InOption z p.done) (sym n) fine.done) in
     let t : tree_at (trees_of new) id ≡ tree_at (trees_of old) id = tree_at_adds (trees_of old) (trees_of new) id a (omega arith) in
     ap (λ z. record { done = z; before = Some (tree_at (trees_of new) before); last = Some (tree_at (trees_of new) id) }) d
     ∙ (ap (λ z. record { done = opt_tree (trees_of old) p.done; before = Some z; last = Some (tree_at (trees_of new) id) }) e
-    ∙ (ap (λ z. record { done = opt_tree (trees_of old) p.done; before = Some (joined (opt_tree (trees_of old) p.before) (tree_at (trees_of old) last)); last = Some z }) t
-    ∙ ap (λ z. record { done = opt_tree (trees_of old) p.done; before = pushed_before (opt_tree (trees_of old) p.before) (opt_tree (trees_of old) z); last = Some (tree_at (trees_of old) id) }) (sym is)))
+    ∙ (ap (λ z. record {
+      done = opt_tree (trees_of old) p.done;
+      before =
+          Some (joined (opt_tree (trees_of old) p.before) (tree_at (trees_of old) last));
+      last = Some z;
+    }) t
+    ∙ ap (λ z. record {
+      done = opt_tree (trees_of old) p.done;
+      before =
+          pushed_before (opt_tree (trees_of old) p.before) (opt_tree (trees_of old) z);
+      last = Some (tree_at (trees_of old) id);
+    }) (sym is)))
 
-pub can_repeat_at : (ns : List Node) (i : ℕ) (d : Node) (r : Bool) → i < length ns → ((us : List Tree) → r ≡ can_repeat (built us (get_or ns i d).shape)) → r ≡ can_repeat (tree_at (trees_of ns) i)
+pub can_repeat_at : (ns : List Node) (i : ℕ) (d : Node) (r : Bool) → i < length ns →
+    ((us : List Tree) → r ≡ can_repeat (built us (get_or ns i d).shape)) → r ≡ can_repeat (tree_at (trees_of ns) i)
 can_repeat_at ns i d r h f = let (us, l, a, e) = shape_at ns i d h in f us ∙ sym (ap can_repeat e)
 
 outer_old : (old new : List Tree) (o : Open) → Adds old new → InPart (length old) o.part → outer1 new o ≡ outer1 old o

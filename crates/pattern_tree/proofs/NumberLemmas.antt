@@ -12,7 +12,8 @@ pub digits_on : (n c : ℕ) (x y : Text) → y ≡ c ∷ x → is_digit c ≡ tr
 digits_on n c x y e d = ap (digits_from n) e ∙ ap (λ z. if z then digits_from (10 * n + (c - 48)) x else (n, c ∷ x)) d
 
 pub digits_off : (n c : ℕ) (x y : Text) → y ≡ c ∷ x → is_digit c ≡ false → digits_from n y ≡ (n, y)
-digits_off n c x y e d = ap (digits_from n) e ∙ (ap (λ z. if z then digits_from (10 * n + (c - 48)) x else (n, c ∷ x)) d ∙ ap (λ z. (n, z)) (sym e))
+digits_off n c x y e d = ap (digits_from n) e ∙ (ap (λ z. if z then digits_from (10 * n + (c - 48)) x else (n, c ∷ x)) d
+    ∙ ap (λ z. (n, z)) (sym e))
 
 pub run_on : (c : ℕ) (x y : Text) → y ≡ c ∷ x → is_digit c ≡ true → run y ≡ run x + 1
 run_on c x y e d = ap run e ∙ ap (λ z. if z then run x + 1 else 0) d
@@ -61,7 +62,8 @@ LongFrom x y = (w : ℕ) → run x ≤ run y → 0 < w → (digits_from 0 x).0 <
 long_step : (x : Text) (d : ℕ) (y : Text) → LongFrom x y → LongFrom x (d ∷ y)
 long_step x d y ih w h p = go (is_digit d) refl h
   where
-    go : (b : Bool) → is_digit d ≡ b → run x ≤ (if b then run y + 1 else 0) → (digits_from 0 x).0 < (if b then digits_from (10 * w + (d - 48)) y else (w, d ∷ y)).0
+    go : (b : Bool) → is_digit d ≡ b → run x ≤ (if b then run y + 1 else 0) →
+        (digits_from 0 x).0 < (if b then digits_from (10 * w + (d - 48)) y else (w, d ∷ y)).0
     go false e h = let q : digits_from 0 x ≡ (0, x) = no_run 0 x (omega arith) in subst (λ z. z.0 < w) (sym q) p
     go true e h = pick (nat_le (run x) (run y)) refl
       where
@@ -81,7 +83,8 @@ pub strip_less : (x y : Text) → is_at 48 y ≡ false → run x < run y → (di
 strip_less x [] e h = absurd (omega arith)
 strip_less x (d ∷ y) e h = go (is_digit d) refl h
   where
-    go : (b : Bool) → is_digit d ≡ b → run x < (if b then run y + 1 else 0) → (digits_from 0 x).0 < (if b then digits_from (10 * 0 + (d - 48)) y else (0, d ∷ y)).0
+    go : (b : Bool) → is_digit d ≡ b → run x < (if b then run y + 1 else 0) →
+        (digits_from 0 x).0 < (if b then digits_from (10 * 0 + (d - 48)) y else (0, d ∷ y)).0
     go false f h = absurd (omega arith)
     go true f h =
         let s = digit_small d f in
@@ -106,7 +109,8 @@ too_high n (c ∷ x) h = go (c == 125) (hex_value c) (λ d. too_high (16 * n + d
     go false (Some d) ih = ih d
 
 -- the loop over two runs of one length
-pub same_none : (n : ℕ) (x y : Text) (p q : ℕ × Text) → x ≡ [] → run x ≡ run y → digits_from n x ≡ p → digits_from n y ≡ q → true ≡ nat_le p.0 q.0
+pub same_none : (n : ℕ) (x y : Text) (p q : ℕ × Text) → x ≡ [] → run x ≡ run y → digits_from n x ≡ p → digits_from n y ≡ q →
+    true ≡ nat_le p.0 q.0
 same_none n x y p q e r f g =
     let a : (digits_from n x).0 ≡ n = ap (λ z. (digits_from n z).0) e in
     let zero_run : run y ≡ 0 = sym r ∙ ap run e in
@@ -114,7 +118,8 @@ same_none n x y p q e r f g =
     let k : p.0 ≡ q.0 = sym (ap (λ z. z.0) f) ∙ (a ∙ (sym b ∙ ap (λ z. z.0) g)) in
     sym (le_true p.0 q.0 (omega arith))
 
-pub same_end : (n c : ℕ) (next x y : Text) (p q : ℕ × Text) → x ≡ c ∷ next → is_digit c ≡ false → run x ≡ run y → digits_from n x ≡ p → digits_from n y ≡ q → true ≡ nat_le p.0 q.0
+pub same_end : (n c : ℕ) (next x y : Text) (p q : ℕ × Text) → x ≡ c ∷ next → is_digit c ≡ false → run x ≡ run y → digits_from n x ≡ p →
+    digits_from n y ≡ q → true ≡ nat_le p.0 q.0
 same_end n c next x y p q e d r f g =
     let zero_run : run x ≡ 0 = run_off c next x e d in
     let a : (digits_from n x).0 ≡ n = ap (λ z. z.0) (no_run n x zero_run) in
@@ -129,7 +134,8 @@ other_digit d y n e = go (is_digit d) refl e
     go true f h = (f, omega arith)
     go false f h = absurd (omega arith)
 
-pub same_decides : (n c d : ℕ) (next other x y : Text) (p q : ℕ × Text) → x ≡ c ∷ next → y ≡ d ∷ other → is_digit c ≡ true → (c ≡ d → ⊥) → run x ≡ run y → digits_from n x ≡ p → digits_from n y ≡ q → nat_lt c d ≡ nat_le p.0 q.0
+pub same_decides : (n c d : ℕ) (next other x y : Text) (p q : ℕ × Text) → x ≡ c ∷ next → y ≡ d ∷ other → is_digit c ≡ true → (c ≡ d → ⊥) →
+    run x ≡ run y → digits_from n x ≡ p → digits_from n y ≡ q → nat_lt c d ≡ nat_le p.0 q.0
 same_decides n c d next other x y p q ex ey dc ne r f g =
     let rx : run x ≡ run next + 1 = run_on c next x ex dc in
     let two = other_digit d other (run next) (sym (ap run ey) ∙ (sym r ∙ rx)) in
@@ -139,20 +145,24 @@ same_decides n c d next other x y p q ex ey dc ne r f g =
     let sd = digit_small d two.0 in
     go (nat_lt c d) refl a b two.1 sc.0 sc.1 sd.0 sd.1
   where
-    go : (t : Bool) → nat_lt c d ≡ t → digits_from (10 * n + (c - 48)) next ≡ p → digits_from (10 * n + (d - 48)) other ≡ q → run other ≡ run next →
+    go : (t : Bool) → nat_lt c d ≡ t → digits_from (10 * n + (c - 48)) next ≡ p → digits_from (10 * n + (d - 48)) other ≡ q →
+        run other ≡ run next →
         48 ≤ c → c ≤ 57 → 48 ≤ d → d ≤ 57 → t ≡ nat_le p.0 q.0
     go true t a b r c1 c2 d1 d2 =
         let lt : c < d = grind (arith, nat_tests) in
-        let l : (digits_from (10 * n + (c - 48)) next).0 < (digits_from (10 * n + (d - 48)) other).0 = same_less next _ _ other (sym r) (omega arith) in
+        let l : (digits_from (10 * n + (c - 48)) next).0 < (digits_from (10 * n + (d - 48)) other).0 =
+        same_less next _ _ other (sym r) (omega arith) in
         let k : p.0 < q.0 = subst (λ z. z.0 < q.0) a (subst (λ z. (digits_from (10 * n + (c - 48)) next).0 < z.0) b l) in
         sym (le_true p.0 q.0 (omega arith))
     go false t a b r c1 c2 d1 d2 =
         let lt : d < c = grind (arith, nat_tests) in
-        let l : (digits_from (10 * n + (d - 48)) other).0 < (digits_from (10 * n + (c - 48)) next).0 = same_less other _ _ next r (omega arith) in
+        let l : (digits_from (10 * n + (d - 48)) other).0 < (digits_from (10 * n + (c - 48)) next).0 =
+        same_less other _ _ next r (omega arith) in
         let k : q.0 < p.0 = subst (λ z. z.0 < p.0) b (subst (λ z. (digits_from (10 * n + (d - 48)) other).0 < z.0) a l) in
         sym (le_false p.0 q.0 k)
 
-pub runs_decide : (x y : Text) (p q : ℕ × Text) → is_at 48 x ≡ false → is_at 48 y ≡ false → (run x ≡ run y → ⊥) → digits_from 0 x ≡ p → digits_from 0 y ≡ q → nat_lt (run x) (run y) ≡ nat_le p.0 q.0
+pub runs_decide : (x y : Text) (p q : ℕ × Text) → is_at 48 x ≡ false → is_at 48 y ≡ false → (run x ≡ run y → ⊥) → digits_from 0 x ≡ p →
+    digits_from 0 y ≡ q → nat_lt (run x) (run y) ≡ nat_le p.0 q.0
 runs_decide x y p q ex ey ne f g = go (nat_lt (run x) (run y)) refl
   where
     go : (t : Bool) → nat_lt (run x) (run y) ≡ t → t ≡ nat_le p.0 q.0
@@ -165,10 +175,12 @@ runs_decide x y p q ex ey ne f g = go (nat_lt (run x) (run y)) refl
         let k : q.0 < p.0 = subst (λ z. z.0 < p.0) g (subst (λ z. (digits_from 0 y).0 < z.0) f (strip_less y x ex lt)) in
         sym (le_false p.0 q.0 k)
 
-pub brace_high : (n c d : ℕ) (next x : Text) → x ≡ c ∷ next → (c ≡ 125 → ⊥) → Some d ≡ hex_value c → 1114111 < 16 * n + d → option_and_then if_code_point (hex_to_brace n x) ≡ None
+pub brace_high : (n c d : ℕ) (next x : Text) → x ≡ c ∷ next → (c ≡ 125 → ⊥) → Some d ≡ hex_value c → 1114111 < 16 * n + d →
+    option_and_then if_code_point (hex_to_brace n x) ≡ None
 brace_high n c d next x e ne v h =
     let f : (c == 125) ≡ false = grind (arith, nat_tests) in
     ap (λ z. option_and_then if_code_point (hex_to_brace n z)) e
-    ∙ (ap (λ z. option_and_then if_code_point (if z then Some (n, next) else option_and_then (λ d. hex_to_brace (16 * n + d) next) (hex_value c))) f
+    ∙ (ap (λ z. option_and_then if_code_point (if z then Some (n, next) else option_and_then (λ d. hex_to_brace (16 * n + d) next)
+    (hex_value c))) f
     ∙ (ap (λ z. option_and_then if_code_point (option_and_then (λ d. hex_to_brace (16 * n + d) next) z)) (sym v)
     ∙ too_high (16 * n + d) next h))

@@ -41,12 +41,20 @@ and_both false b e h = cc
 
 module _ (wide : Bool) where
   -- the whole text was read, and the tests hold
-  pub passed : (x : Text) (c : Counters) (p : Places) (s : State) (at : ℕ) (t : Tree) → Leads wide x s [] → Told c (spelled s) → Placed p s at →
-      nat_le c.highest c.groups && has_all p (map string_bytes c.references.items) ≡ true → finished s.here s.outer ≡ Some t → Grammar wide x t
+  pub passed : (x : Text) (c : Counters) (p : Places) (s : State) (at : ℕ) (t : Tree) → Leads wide x s [] → Told c (spelled s) →
+      Placed p s at →
+      nat_le c.highest c.groups && has_all p (map string_bytes c.references.items) ≡ true → finished s.here s.outer ≡ Some t →
+      Grammar wide x t
   passed x c p s at t l h k e f =
       let d : Ended wide x s t = ends wide x s t l f in
       let m : in_number (captures t) (numbers t) && in_names (names t) (references t) ≡ true = sym (met c p s at t h k f d.tokens) ∙ e in
-      record { spells = d.spells; apart = d.apart; named = and_right (in_number (captures t) (numbers t)) _ m; numbered = and_left (in_number (captures t) (numbers t)) _ m }
+      record {
+        spells = d.spells;
+        apart = d.apart;
+        named = and_right (in_number (captures t) (numbers t)) _ m;
+        numbered =
+            and_left (in_number (captures t) (numbers t)) _ m;
+      }
 
   pub failed : (x : Text) (c : Counters) (p : Places) (s : State) (at : ℕ) → Leads wide x s [] → Told c (spelled s) → Placed p s at →
       nat_le c.highest c.groups && has_all p (map string_bytes c.references.items) ≡ false → (t : Tree) → Grammar wide x t → ⊥
@@ -57,43 +65,60 @@ module _ (wide : Bool) where
       let n : in_number (captures t) (numbers t) && in_names (names t) (references t) ≡ true = and_both _ _ g.numbered g.named in
       cc
 
-  pub ended_some : {E : Type 0} (x : Text) (c : Counters) (p : Places) (s : State) (at : ℕ) (r : Result (Option Pattern) E) → Leads wide x s [] → Told c (spelled s) → Placed p s at →
-      nat_le c.highest c.groups && has_all p (map string_bytes c.references.items) ≡ true → IfOk r (λ o. finished s.here s.outer ≡ option_map tree_of o) → IfOk r (λ o. IfSome o (λ q. Grammar wide x (tree_of q)))
+  pub ended_some : {E : Type 0} (x : Text) (c : Counters) (p : Places) (s : State) (at : ℕ) (r : Result (Option Pattern) E) →
+      Leads wide x s [] → Told c (spelled s) → Placed p s at →
+      nat_le c.highest c.groups && has_all p (map string_bytes c.references.items) ≡ true →
+      IfOk r (λ o. finished s.here s.outer ≡ option_map tree_of o) → IfOk r (λ o. IfSome o (λ q. Grammar wide x (tree_of q)))
   ended_some x c p s at (Err e) l h k m f = tt
   ended_some x c p s at (Ok None) l h k m f = tt
   ended_some x c p s at (Ok (Some q)) l h k m f = passed x c p s at (tree_of q) l h k m f
 
-  pub ended_none : {E : Type 0} (x : Text) (s : State) (r : Result (Option Pattern) E) → Leads wide x s [] → IfOk r (λ o. finished s.here s.outer ≡ option_map tree_of o) → IfOk r (λ o. IfNone o ((t : Tree) → Grammar wide x t → ⊥))
+  pub ended_none : {E : Type 0} (x : Text) (s : State) (r : Result (Option Pattern) E) → Leads wide x s [] →
+      IfOk r (λ o. finished s.here s.outer ≡ option_map tree_of o) → IfOk r (λ o. IfNone o ((t : Tree) → Grammar wide x t → ⊥))
   ended_none x s (Err e) l f = tt
   ended_none x s (Ok None) l f = λ t g. let k : finished s.here s.outer ≡ Some t = at_end wide x s t l g in cc
   ended_none x s (Ok (Some q)) l f = tt
 
-  pub no_token : (x : Text) (s : State) (y : Text) (c : ℕ) (after : Text) → length x < 4294967296 → Leads wide x s y → y ≡ c ∷ after → IsRefused (token_from wide c after) → (t : Tree) → Grammar wide x t → ⊥
+  pub no_token : (x : Text) (s : State) (y : Text) (c : ℕ) (after : Text) → length x < 4294967296 → Leads wide x s y → y ≡ c ∷ after →
+      IsRefused (token_from wide c after) → (t : Tree) → Grammar wide x t → ⊥
   no_token x s y c after small l e f = go (token_from wide c after) refl f
     where
       go : (o : Option (Token × Text)) → token_from wide c after ≡ o → IsRefused o → (t : Tree) → Grammar wide x t → ⊥
       go None q f = refused_token wide x s c after (subst (λ z. Leads wide x s z) e l) q
       go (Some p) q f = refused_high wide x s c after p.1 p.0 (subst (λ z. Leads wide x s z) e l) q f small
 
-  pub no_name : (x : Text) (s : State) (new : Places) (end : ℕ) (y : Text) (c : ℕ) (after rest : Text) (t : Token) (b : Bool) → Leads wide x s y → y ≡ c ∷ after → token_from wide c after ≡ Some (t, rest) → Allows t s end new b → b ≡ false → (tree : Tree) → Grammar wide x tree → ⊥
-  no_name x s new end y c after rest t b l e f m q = refused_name wide x s c after rest t (subst (λ z. Leads wide x s z) e l) f (subst (λ z. Allows t s end new z) q m)
+  pub no_name : (x : Text) (s : State) (new : Places) (end : ℕ) (y : Text) (c : ℕ) (after rest : Text) (t : Token) (b : Bool) →
+      Leads wide x s y → y ≡ c ∷ after → token_from wide c after ≡ Some (t, rest) → Allows t s end new b → b ≡ false → (tree : Tree) →
+      Grammar wide x tree → ⊥
+  no_name x s new end y c after rest t b l e f m q = refused_name wide x s c after rest t (subst (λ z. Leads wide x s z) e l) f
+      (subst (λ z. Allows t s end new z) q m)
 
-  pub no_step : (x : Text) (old new : Reader) (y : Text) (c : ℕ) (after rest : Text) (t : Token) (b : Bool) → Leads wide x (state_of old) y → y ≡ c ∷ after → token_from wide c after ≡ Some (t, rest) → Moves t old new b → b ≡ false → (tree : Tree) → Grammar wide x tree → ⊥
-  no_step x old new y c after rest t b l e f m q = refused_step wide x (state_of old) c after rest t (subst (λ z. Leads wide x (state_of old) z) e l) f (subst (λ z. Moves t old new z) q m)
+  pub no_step : (x : Text) (old new : Reader) (y : Text) (c : ℕ) (after rest : Text) (t : Token) (b : Bool) →
+      Leads wide x (state_of old) y → y ≡ c ∷ after → token_from wide c after ≡ Some (t, rest) → Moves t old new b → b ≡ false →
+      (tree : Tree) → Grammar wide x tree → ⊥
+  no_step x old new y c after rest t b l e f m q =
+      refused_step wide x (state_of old) c after rest t (subst (λ z. Leads wide x (state_of old) z) e l) f
+      (subst (λ z. Moves t old new z) q m)
 
-  pub goes : (x : Text) (old new : Reader) (y : Text) (c : ℕ) (after rest : Text) (t : Token) → Leads wide x (state_of old) y → y ≡ c ∷ after → token_from wide c after ≡ Some (t, rest) → allowed t (state_of old) ≡ true → StepsTo t old new → Leads wide x (state_of new) rest
-  goes x old new y c after rest t l e f a m = leads_on wide x (state_of old) (state_of new) c after rest t (subst (λ z. Leads wide x (state_of old) z) e l) f a m.step
+  pub goes : (x : Text) (old new : Reader) (y : Text) (c : ℕ) (after rest : Text) (t : Token) → Leads wide x (state_of old) y →
+      y ≡ c ∷ after → token_from wide c after ≡ Some (t, rest) → allowed t (state_of old) ≡ true → StepsTo t old new →
+      Leads wide x (state_of new) rest
+  goes x old new y c after rest t l e f a m =
+      leads_on wide x (state_of old) (state_of new) c after rest t (subst (λ z. Leads wide x (state_of old) z) e l) f a m.step
 
 pub one_step : (t : Token) (old new : Reader) (b : Bool) → Moves t old new b → b ≡ true → StepsTo t old new
 one_step t old new b m q = subst (λ z. Moves t old new z) q m
 
-pub may_stand : (t : Token) (s : State) (end : ℕ) (new : Places) (b : Bool) → Allows t s end new b → b ≡ true → (allowed t s ≡ true) × ((n : State) → step t s ≡ Some n → Placed new n end)
+pub may_stand : (t : Token) (s : State) (end : ℕ) (new : Places) (b : Bool) → Allows t s end new b → b ≡ true →
+    (allowed t s ≡ true) × ((n : State) → step t s ≡ Some n → Placed new n end)
 may_stand t s end new b m q = subst (λ z. Allows t s end new z) q m
 
-pub begun : (nodes : Vec Node Global) (outer : Vec Open Global) → outer.items ≡ [] → state_of (record { nodes = nodes; here = record { done = None; before = None; last = None }; outer = outer }) ≡ begin
+pub begun : (nodes : Vec Node Global) (outer : Vec Open Global) → outer.items ≡ [] →
+    state_of (record { nodes = nodes; here = record { done = None; before = None; last = None }; outer = outer }) ≡ begin
 begun nodes outer e = ap (λ z. record { here = fresh; outer = outer_of (trees_of nodes.items) z }) e
 
-pub told_first : (references : Vec (String Global) Global) → references.items ≡ [] → Told (record { groups = 0; highest = 0; references = references }) (spelled begin)
+pub told_first : (references : Vec (String Global) Global) → references.items ≡ [] →
+    Told (record { groups = 0; highest = 0; references = references }) (spelled begin)
 told_first references e = record { groups = refl; numbers = λ m. sym (leb-zero m); references = ap (map string_bytes) e }
 
 pub few_chars : (x : List ℕ) → shadow (Utf8 x) → length x < 2 ^ 30 → length (chars x) < 4294967296

@@ -53,7 +53,8 @@ after_at b [] h k d l = absurd (omega arith)
 after_at b (x ∷ xs) h zero d l = (after_front b (inner_first xs) x h).1
 after_at b (x ∷ xs) h (suc k) d l = after_at b xs (after_front b (inner_first xs) x h).0 k d (omega arith)
 
-falls_rise : (xs : List Scope) → Falls (inner_first xs) → (i j : ℕ) (d : Scope) → i ≤ j → j < length xs → (get_or xs i d).start ≤ (get_or xs j d).start
+falls_rise : (xs : List Scope) → Falls (inner_first xs) → (i j : ℕ) (d : Scope) → i ≤ j → j < length xs →
+    (get_or xs i d).start ≤ (get_or xs j d).start
 falls_rise [] h i j d le l = absurd (omega arith)
 falls_rise (x ∷ xs) h zero zero d le l = omega arith
 falls_rise (x ∷ xs) h zero (suc j) d le l =
@@ -65,7 +66,8 @@ falls_rise (x ∷ xs) h (suc i) (suc j) d le l = falls_rise xs (falls_front (inn
 pub starts_rise : (p : Places) (s : State) (at : ℕ) → Placed p s at → StartsRise p.outer.items
 starts_rise p s at h = falls_rise p.outer.items (placed_fall _ s.outer (inner_first p.outer.items) h.outer)
 
-last_scope : (xs : List Scope) (j : ℕ) (c : Scope) → j < length xs → c ≡ get_or xs j c → inner_first (take (suc j) xs) ≡ c ∷ inner_first (take j xs)
+last_scope : (xs : List Scope) (j : ℕ) (c : Scope) → j < length xs → c ≡ get_or xs j c →
+    inner_first (take (suc j) xs) ≡ c ∷ inner_first (take j xs)
 last_scope xs j c h e =
     ap inner_first (take-suc xs j c h ∙ ap (λ z. take j xs ++ (z ∷ [])) (sym e)) ∙ inner_snoc (take j xs) c
 
@@ -79,28 +81,34 @@ self_at xs j d h = get_any xs j d (get_or xs j d) h
 
 module _ (xs : List Scope) (p : ℕ) where
   -- from the place on which they begin after p, the walk from the innermost passes over the groups
-  passes : (i n a : ℕ) (c : Scope) → i < length xs → c ≡ get_or xs i c → nat_lt c.start p ≡ false → lives a (inner_first (take (suc i) xs)) p ≡ lives c.alternative (inner_first (take i xs)) p
+  passes : (i n a : ℕ) (c : Scope) → i < length xs → c ≡ get_or xs i c → nat_lt c.start p ≡ false →
+      lives a (inner_first (take (suc i) xs)) p ≡ lives c.alternative (inner_first (take i xs)) p
   passes i n a c h e f =
       ap (λ z. lives a z p) (last_scope xs i c h e) ∙ ap (λ z. if z then nat_le a p else lives c.alternative (inner_first (take i xs)) p) f
 
-  stops : (i a : ℕ) (d : Scope) → i ≤ length xs → AllWithin (λ s. nat_lt s.start p ≡ true) xs 0 i → lives a (inner_first (take i xs)) p ≡ nat_le a p
+  stops : (i a : ℕ) (d : Scope) → i ≤ length xs → AllWithin (λ s. nat_lt s.start p ≡ true) xs 0 i →
+      lives a (inner_first (take i xs)) p ≡ nat_le a p
   stops zero a d h k = refl
   stops (suc i) a d h k =
       let c = get_or xs i d in
       ap (λ z. lives a z p) (last_scope xs i c (omega arith) (self_at xs i d (omega arith)))
       ∙ ap (λ z. if z then nat_le a p else lives c.alternative (inner_first (take i xs)) p) (k i d (omega arith) (omega arith))
 
-  walks : (n i a : ℕ) (c : Scope) → suc (i + n) ≡ length xs → c ≡ get_or xs i c → AllWithin (λ s. nat_lt s.start p ≡ false) xs i (length xs) → lives a (inner_first xs) p ≡ lives c.alternative (inner_first (take i xs)) p
+  walks : (n i a : ℕ) (c : Scope) → suc (i + n) ≡ length xs → c ≡ get_or xs i c →
+      AllWithin (λ s. nat_lt s.start p ≡ false) xs i (length xs) →
+      lives a (inner_first xs) p ≡ lives c.alternative (inner_first (take i xs)) p
   walks zero i a c e k h =
       let all : take (suc i) xs ≡ xs = ap (λ z. take z xs) (let m : suc i ≡ length xs = omega arith in m) ∙ take-length xs in
-      ap (λ z. lives a (inner_first z) p) (sym all) ∙ passes i 0 a c (omega arith) k (subst (λ z. nat_lt z.start p ≡ false) (sym k) (h i c (omega arith) (omega arith)))
+      ap (λ z. lives a (inner_first z) p) (sym all)
+      ∙ passes i 0 a c (omega arith) k (subst (λ z. nat_lt z.start p ≡ false) (sym k) (h i c (omega arith) (omega arith)))
   walks (suc n) i a c e k h =
       let d = get_or xs (suc i) c in
       walks n (suc i) a d (omega arith) (self_at xs (suc i) c (omega arith)) (λ j b l m. h j b (omega arith) m)
       ∙ passes i 0 d.alternative c (omega arith) k (subst (λ z. nat_lt z.start p ≡ false) (sym k) (h i c (omega arith) (omega arith)))
 
   -- the innermost group around p is the last that begins before it, and the next tells where its open alternative began
-  pub live_inside : (i a : ℕ) (c : Scope) → i < length xs → c ≡ get_or xs i c → AllWithin (λ s. nat_lt s.start p ≡ true) xs 0 i → AllWithin (λ s. nat_lt s.start p ≡ false) xs i (length xs) → nat_le c.alternative p ≡ lives a (inner_first xs) p
+  pub live_inside : (i a : ℕ) (c : Scope) → i < length xs → c ≡ get_or xs i c → AllWithin (λ s. nat_lt s.start p ≡ true) xs 0 i →
+      AllWithin (λ s. nat_lt s.start p ≡ false) xs i (length xs) → nat_le c.alternative p ≡ lives a (inner_first xs) p
   live_inside i a c h e before after =
       let n = sub (length xs) i h in
       sym (walks n.0 i a c n.1 e after ∙ stops i c.alternative c (omega arith) before)
@@ -110,7 +118,8 @@ module _ (xs : List Scope) (p : ℕ) where
       sub (suc m) zero h = (m, omega arith)
       sub (suc m) (suc i) h = let (n, e) = sub m i (omega arith) in (n, omega arith)
 
-  pub live_end : (i a : ℕ) (d : Scope) → i ≡ length xs → AllWithin (λ s. nat_lt s.start p ≡ true) xs 0 i → nat_le a p ≡ lives a (inner_first xs) p
+  pub live_end : (i a : ℕ) (d : Scope) → i ≡ length xs → AllWithin (λ s. nat_lt s.start p ≡ true) xs 0 i →
+      nat_le a p ≡ lives a (inner_first xs) p
   live_end i a d e before =
       let all : take i xs ≡ xs = ap (λ z. take z xs) e ∙ take-length xs in
       sym (ap (λ z. lives a (inner_first z) p) (sym all) ∙ stops i a d (omega arith) before)

@@ -83,13 +83,16 @@ alternative_tokens None (Some t) h = refl
 alternative_tokens (Some r) None h = cc
 alternative_tokens (Some r) (Some t) h = refl
 
-whole_fits : (d : Option Tree) (b l : Option Tree) → done_ok d ≡ true → row_ok b l ≡ true → fits Level.disjunction (with_done d (alternative_of b l)) ≡ true
+whole_fits : (d : Option Tree) (b l : Option Tree) → done_ok d ≡ true → row_ok b l ≡ true →
+    fits Level.disjunction (with_done d (alternative_of b l)) ≡ true
 whole_fits None b l g h = alternative_disjunction (alternative_of b l) (alternative_fits b l h)
 whole_fits (Some d) b l g h = both _ _ g (alternative_fits b l h)
 
-whole_tokens : (d : Option Tree) (b l : Option Tree) → row_ok b l ≡ true → tokens_of (with_done d (alternative_of b l)) ≡ spelled_done d ++ (spelled_option b ++ spelled_option l)
+whole_tokens : (d : Option Tree) (b l : Option Tree) → row_ok b l ≡ true →
+    tokens_of (with_done d (alternative_of b l)) ≡ spelled_done d ++ (spelled_option b ++ spelled_option l)
 whole_tokens None b l h = alternative_tokens b l h
-whole_tokens (Some d) b l h = ap (λ z. tokens_of d ++ (Token.bar ∷ z)) (alternative_tokens b l h) ∙ sym (append_assoc (tokens_of d) (Token.bar ∷ []) (spelled_option b ++ spelled_option l))
+whole_tokens (Some d) b l h = ap (λ z. tokens_of d ++ (Token.bar ∷ z)) (alternative_tokens b l h)
+    ∙ sym (append_assoc (tokens_of d) (Token.bar ∷ []) (spelled_option b ++ spelled_option l))
 
 push_ok : (b l : Option Tree) (t : Tree) → row_ok b l ≡ true → fits Level.term t ≡ true → row_ok (pushed_before b l) (Some t) ≡ true
 push_ok None None t h g = g
@@ -116,13 +119,16 @@ push_spelled t f h =
     ap (λ z. spelled_done f.done ++ (z ++ tokens_of t)) (pushed_tokens f.before f.last h.row)
     ∙ sym (append_assoc (spelled_done f.done) (spelled_option f.before ++ spelled_option f.last) (tokens_of t))
 
-step_leaf : (l : Leaf) (f : Frame) (os : List Outer) → Fine (with_here os f) → Goes (with_here os f) (with_here os (push (leaf l) f)) (Token.leaf l)
+step_leaf : (l : Leaf) (f : Frame) (os : List Outer) → Fine (with_here os f) →
+    Goes (with_here os f) (with_here os (push (leaf l) f)) (Token.leaf l)
 step_leaf l f os h = record {
   fine = record { here = push_fine (leaf l) f h.here refl; outer = h.outer };
-  spelled = ap (λ z. spelled_outer os ++ z) (push_spelled (leaf l) f h.here) ∙ sym (append_assoc (spelled_outer os) (spelled_frame f) (Token.leaf l ∷ []));
+  spelled = ap (λ z. spelled_outer os ++ z) (push_spelled (leaf l) f h.here)
+      ∙ sym (append_assoc (spelled_outer os) (spelled_frame f) (Token.leaf l ∷ []));
 }
 
-step_opens : (m : Mark) (f : Frame) (os : List Outer) → Fine (with_here os f) → Goes (with_here os f) (with_here (record { mark = m; frame = f } ∷ os) fresh) (Token.opens m)
+step_opens : (m : Mark) (f : Frame) (os : List Outer) → Fine (with_here os f) →
+    Goes (with_here os f) (with_here (record { mark = m; frame = f } ∷ os) fresh) (Token.opens m)
 step_opens m f os h = record {
   fine = record { here = record { done = refl; row = refl }; outer = (h.here, h.outer) };
   spelled = append-nil _ ∙ sym (append_assoc (spelled_outer os) (spelled_frame f) (Token.opens m ∷ []));
@@ -131,25 +137,34 @@ step_opens m f os h = record {
 step_bar : (f : Frame) (os : List Outer) → Fine (with_here os f) → Goes (with_here os f) (with_here os (barred f)) Token.bar
 step_bar f os h = record {
   fine = record { here = record { done = whole_fits f.done f.before f.last h.here.done h.here.row; row = refl }; outer = h.outer };
-  spelled = ap (λ z. spelled_outer os ++ z) (append-nil _ ∙ ap (λ z. z ++ (Token.bar ∷ [])) (whole_tokens f.done f.before f.last h.here.row)) ∙ sym (append_assoc (spelled_outer os) (spelled_frame f) (Token.bar ∷ []));
+  spelled = ap (λ z. spelled_outer os ++ z) (append-nil _
+      ∙ ap (λ z. z ++ (Token.bar ∷ [])) (whole_tokens f.done f.before f.last h.here.row))
+      ∙ sym (append_assoc (spelled_outer os) (spelled_frame f) (Token.bar ∷ []));
 }
 
-step_closes : (f : Frame) (o : Outer) (os : List Outer) → Fine (with_here (o ∷ os) f) → Goes (with_here (o ∷ os) f) (with_here os (push (group o.mark (whole f)) o.frame)) Token.closes
+step_closes : (f : Frame) (o : Outer) (os : List Outer) → Fine (with_here (o ∷ os) f) →
+    Goes (with_here (o ∷ os) f) (with_here os (push (group o.mark (whole f)) o.frame)) Token.closes
 step_closes f o os h = record {
-  fine = record { here = push_fine (group o.mark (whole f)) o.frame h.outer.0 (whole_fits f.done f.before f.last h.here.done h.here.row); outer = h.outer.1 };
+  fine = record {
+    here = push_fine (group o.mark (whole f)) o.frame h.outer.0 (whole_fits f.done f.before f.last h.here.done h.here.row);
+    outer = h.outer.1;
+  };
   spelled =
       ap (λ z. spelled_outer os ++ z) (push_spelled (group o.mark (whole f)) o.frame h.outer.0)
-      ∙ (ap (λ z. spelled_outer os ++ (spelled_frame o.frame ++ (Token.opens o.mark ∷ z ++ (Token.closes ∷ [])))) (whole_tokens f.done f.before f.last h.here.row)
+      ∙ (ap (λ z. spelled_outer os ++ (spelled_frame o.frame ++ (Token.opens o.mark ∷ z ++ (Token.closes ∷ []))))
+      (whole_tokens f.done f.before f.last h.here.row)
       ∙ simp append_assoc);
 }
 
-repeat_ok : (b : Option Tree) (t : Tree) (bounds : Bounds) → row_ok b (Some t) ≡ true → can_repeat t ≡ true → row_ok b (Some (repeat t bounds)) ≡ true
+repeat_ok : (b : Option Tree) (t : Tree) (bounds : Bounds) → row_ok b (Some t) ≡ true → can_repeat t ≡ true →
+    row_ok b (Some (repeat t bounds)) ≡ true
 repeat_ok None t bounds h c = repeat_atom t h c
 repeat_ok (Some r) t bounds h c = both _ _ (and_left _ _ h) (repeat_atom t (and_right _ _ h) c)
 
 step_times : (b : Bounds) (d bf : Option Tree) (t : Tree) (os : List Outer) →
     Fine (with_here os (record { done = d; before = bf; last = Some t })) → can_repeat t ≡ true →
-    Goes (with_here os (record { done = d; before = bf; last = Some t })) (with_here os (record { done = d; before = bf; last = Some (repeat t b) })) (Token.times b)
+    Goes (with_here os (record { done = d; before = bf; last = Some t }))
+    (with_here os (record { done = d; before = bf; last = Some (repeat t b) })) (Token.times b)
 step_times b d bf t os h c = record {
   fine = record { here = record { done = h.here.done; row = repeat_ok bf t b h.here.row c }; outer = h.outer };
   spelled = simp append_assoc;
@@ -174,7 +189,8 @@ goes_times b d bf (Some t) os n e h = go (can_repeat t) refl e
     go true c e = moved _ n e (step_times b d bf t os h c)
     go false c e = cc
 
-goes_closes : (f : Frame) (os : List Outer) (n : State) → closed f os ≡ Some n → Fine (with_here os f) → Goes (with_here os f) n Token.closes
+goes_closes : (f : Frame) (os : List Outer) (n : State) → closed f os ≡ Some n → Fine (with_here os f) →
+    Goes (with_here os f) n Token.closes
 goes_closes f [] n e h = cc
 goes_closes f (o ∷ os) n e h = moved _ n e (step_closes f o os h)
 
@@ -190,7 +206,8 @@ pub record Shaped (ts : List Token) (t : Tree) : Type 0 where
   pub fits : fits Level.disjunction t ≡ true
   pub tokens : tokens_of t ≡ ts
 
-pub finished_shaped : (f : Frame) (os : List Outer) (t : Tree) → finished f os ≡ Some t → Fine (with_here os f) → Shaped (spelled (with_here os f)) t
+pub finished_shaped : (f : Frame) (os : List Outer) (t : Tree) → finished f os ≡ Some t → Fine (with_here os f) →
+    Shaped (spelled (with_here os f)) t
 finished_shaped f [] t e h = subst (λ z. Shaped (spelled_frame f) z) (some_same e) (record {
   fits = whole_fits f.done f.before f.last h.here.done h.here.row;
   tokens = whole_tokens f.done f.before f.last h.here.row;

@@ -66,7 +66,12 @@ IsForm p id (forms.BackNumber n) = node_tree p id ≡ Tree.leaf (Leaf.back_numbe
 IsForm p id forms.BackName = (n : Name) × (node_tree p id ≡ Tree.leaf (Leaf.back_name n))
 IsForm p id (forms.Group k i) = IsPart p id i × ((m : Mark) × (node_tree p id ≡ Tree.group m (node_tree p i)) × (k ≡ kind_of m))
 IsForm p id (forms.Repeat i least most lazy) =
-    IsPart p id i × (node_tree p id ≡ Tree.repeat (node_tree p i) (record { least = count_in least; most = option_map count_in most; lazy = lazy }))
+    IsPart p id i × (node_tree p id ≡ Tree.repeat (node_tree p i) (record {
+      least = count_in least;
+      most = option_map count_in most;
+      lazy =
+          lazy;
+    }))
 IsForm p id (forms.Sequence i j) = IsPart p id i × IsPart p id j × (node_tree p id ≡ Tree.sequence (node_tree p i) (node_tree p j))
 IsForm p id (forms.Either i j) = IsPart p id i × IsPart p id j × (node_tree p id ≡ Tree.either (node_tree p i) (node_tree p j))
 

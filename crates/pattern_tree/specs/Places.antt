@@ -64,7 +64,8 @@ pub record Placed (p : Places) (s : State) (at : ℕ) : Type 0 where
   pub low : bottom (inner_first p.outer.items) ≤ p.alternative
   pub high : p.alternative ≤ at
   pub live : (q : Name) → is_in q (live_frame s.here) ≡ from p.alternative (place_of p q)
-  pub all : (q : Name) → is_in q (opt_names s.here.done) || is_in q (live_frame s.here) ≡ from (bottom (inner_first p.outer.items)) (place_of p q)
+  pub all : (q : Name) → is_in q (opt_names s.here.done) || is_in q (live_frame s.here) ≡ from (bottom (inner_first p.outer.items))
+      (place_of p q)
   pub early : (q : Name) → from at (place_of p q) ≡ false
 
 -- whether the token may stand here, and what the places then tell
@@ -74,7 +75,8 @@ Allows t s end new false = allowed t s ≡ false
 
 -- the innermost scope is taken off, where there is one
 abbrev pub Popped : Places → Places → Type 0
-Popped old new = (old.outer.items ≡ []) ⊎ ((c : Scope) × (old.outer.items ≡ new.outer.items ++ (c ∷ [])) × (new.alternative ≡ c.alternative))
+Popped old new =
+    (old.outer.items ≡ []) ⊎ ((c : Scope) × (old.outer.items ≡ new.outer.items ++ (c ∷ [])) × (new.alternative ≡ c.alternative))
 
 -- a place stands in the open alternative of the innermost group that is around it
 abbrev pub lives : ℕ → List Scope → ℕ → Bool

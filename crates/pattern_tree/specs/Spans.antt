@@ -61,7 +61,8 @@ module _ (wide : Bool) (x : Text) where
   abbrev pub OuterStands : List Node → List Open → ℕ → ℕ → Type 0
   OuterStands ns [] first begin = first ≡ begin
   OuterStands ns (o ∷ os) first begin =
-      PartStands ns o.part first o.start × ((inside : ℕ) × TokenStands wide x o.start (Token.opens (mark_of o.mark)) inside × OuterStands ns os inside begin)
+      PartStands ns o.part first o.start × ((inside : ℕ) × TokenStands wide x o.start (Token.opens (mark_of o.mark)) inside ×
+      OuterStands ns os inside begin)
 
   -- what was read up to a place stands where the nodes say
   pub record ReaderStands (r : Reader) (at : ℕ) : Type 0 where
@@ -72,4 +73,5 @@ module _ (wide : Bool) (x : Text) where
 
 -- a token between two places leads from one state to the other
 abbrev pub StandsOn : Token → ℕ → ℕ → Reader → Reader → Type 0
-StandsOn t start end old new = (wide : Bool) (x : Text) → ReaderStands wide x old start → TokenStands wide x start t end → ReaderStands wide x new end
+StandsOn t start end old new = (wide : Bool) (x : Text) → ReaderStands wide x old start → TokenStands wide x start t end →
+    ReaderStands wide x new end

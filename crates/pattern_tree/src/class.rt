@@ -48,7 +48,8 @@ fn property_atom(negated: bool, x: &str) -> Option<(Atom, &str)>
 }
 
 fn escape_or_code(c: char, x: &str) -> Option<(Atom, &str)>
-    ensures value { escape_or_code c (chars x.now) (escapes.class_escape c) ≡ option_map (λ p. (atom_of p.0, chars p.1.now)) result }
+    ensures value { escape_or_code c (chars x.now) (escapes.class_escape c) ≡ option_map (λ p.
+        (atom_of p.0, chars p.1.now)) result }
     ensures len { IfSome result (λ p. length p.1.now ≤ length x.now) }
 {
     if let Some(escape) = class_escape(c) {
@@ -122,7 +123,8 @@ fn push(
 ) -> Result<(), AllocError>
     requires from { length from.now ≤ total }
     requires to { length to.now ≤ length from.now }
-    ensures { IfOk result (λ _. map item_of items.new.items ≡ map item_of items.old.items ++ (form_item form ∷ [])) }
+    ensures { IfOk result (λ _.
+        map item_of items.new.items ≡ map item_of items.old.items ++ (form_item form ∷ [])) }
 {
     let span = Span {
         start: total - from.len(),
@@ -141,7 +143,9 @@ fn class_part<'a>(
 ) -> Result<Option<&'a str>, AllocError>
     requires { length x.now ≤ total }
     ensures none { IfOk result (λ o. IfNone o (class_part wide (chars x.now) ≡ None)) }
-    ensures some { IfOk result (λ o. IfSome o (λ y. (new : List Item) × (class_part wide (chars x.now) ≡ Some (new, chars y.now)) × (map item_of items.new.items ≡ map item_of items.old.items ++ new))) }
+    ensures some { IfOk result (λ o. IfSome o (λ y.
+        (new : List Item) × (class_part wide (chars x.now) ≡ Some (new, chars y.now))
+        × (map item_of items.new.items ≡ map item_of items.old.items ++ new))) }
     ensures len { IfOk result (λ o. IfSome o (λ y. length y.now < length x.now)) }
 {
     let Some((atom, after)) = class_atom(x) else {
@@ -179,7 +183,9 @@ pub(crate) fn class_items(
     x: &str,
 ) -> Result<Option<(Vec<ClassItem>, &str)>, AllocError>
     requires { length x.now ≤ total }
-    ensures value { IfOk result (λ o. class_items wide (chars x.now) ≡ option_map (λ p. (map item_of p.0.items, chars p.1.now)) o) }
+    ensures value { IfOk result (λ o.
+        class_items wide (chars x.now) ≡ option_map (λ p.
+        (map item_of p.0.items, chars p.1.now)) o) }
     ensures len { IfOk result (λ o. IfSome o (λ p. length p.1.now ≤ length x.now)) }
 {
     let mut items = Vec::new(alloc);

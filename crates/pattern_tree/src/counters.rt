@@ -40,8 +40,12 @@ impl Counters {
 
     fn single(&mut self, single: &Single) -> Result<(), AllocError>
         ensures groups { self.new.groups ≡ self.old.groups }
-        ensures highest { OnOk result ((m : ℕ) → nat_le self.new.highest m ≡ (nat_le self.old.highest m && in_number m (token_numbers (tree.Token.leaf (leaf_of single.now))))) }
-        ensures references { OnOk result (map string_bytes self.new.references.items ≡ map string_bytes self.old.references.items ++ token_references (tree.Token.leaf (leaf_of single.now))) }
+        ensures highest { OnOk result ((m : ℕ) → nat_le self.new.highest m
+            ≡ (nat_le self.old.highest m && in_number m (token_numbers (tree.Token.leaf
+            (leaf_of single.now))))) }
+        ensures references { OnOk result (map string_bytes self.new.references.items
+            ≡ map string_bytes self.old.references.items ++ token_references (tree.Token.leaf
+            (leaf_of single.now))) }
     {
         match single {
             Single::BackNumber(number) => {
@@ -64,8 +68,11 @@ impl Counters {
     pub fn take(&mut self, token: &Token) -> Result<(), AllocError>
         requires { self.old.groups < 2 ^ 32 }
         ensures groups { OnOk result (self.new.groups ≡ self.old.groups + token_captures (token_of token.now)) }
-        ensures highest { OnOk result ((m : ℕ) → nat_le self.new.highest m ≡ (nat_le self.old.highest m && in_number m (token_numbers (token_of token.now)))) }
-        ensures references { OnOk result (map string_bytes self.new.references.items ≡ map string_bytes self.old.references.items ++ token_references (token_of token.now)) }
+        ensures highest { OnOk result ((m : ℕ) → nat_le self.new.highest m
+            ≡ (nat_le self.old.highest m && in_number m (token_numbers (token_of token.now)))) }
+        ensures references { OnOk result (map string_bytes self.new.references.items
+            ≡ map string_bytes self.old.references.items ++ token_references (token_of
+            token.now)) }
     {
         match token {
             Token::Opens(mark) => {

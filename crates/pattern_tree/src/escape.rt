@@ -224,7 +224,9 @@ fn name_part(x: &str) -> Option<(char, &str)>
 
 /// Adds the further characters of a name, up to its closing bracket.
 fn name_parts<'a>(name: &mut String, x: &'a str) -> Result<Option<&'a str>, AllocError>
-    ensures value { IfOk result (λ o. with_front (string_bytes name.old) (name_parts (chars x.now)) ≡ option_map (λ y. (string_bytes name.new, chars y.now)) o) }
+    ensures value { IfOk result (λ o.
+        with_front (string_bytes name.old) (name_parts (chars x.now)) ≡ option_map (λ y.
+        (string_bytes name.new, chars y.now)) o) }
     ensures len { IfOk result (λ o. IfSome o (λ y. length y.now ≤ length x.now)) }
 {
     let mut after = x;
@@ -241,7 +243,8 @@ fn name_parts<'a>(name: &mut String, x: &'a str) -> Result<Option<&'a str>, Allo
 /// A name and its closing bracket.
 #[tactic(auto, unfolding(pattern_model::specs::GroupNames::name))]
 pub(crate) fn name(alloc: Global, x: &str) -> Result<Option<(String, &str)>, AllocError>
-    ensures value { IfOk result (λ o. name (chars x.now) ≡ option_map (λ p. (string_bytes p.0, chars p.1.now)) o) }
+    ensures value { IfOk result (λ o.
+        name (chars x.now) ≡ option_map (λ p. (string_bytes p.0, chars p.1.now)) o) }
     ensures len { IfOk result (λ o. IfSome o (λ p. length p.1.now ≤ length x.now)) }
 {
     let Some((first, after)) = name_start(x) else {

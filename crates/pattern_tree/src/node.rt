@@ -69,7 +69,9 @@ pub struct Node {
 #[tactic(auto, using(crate::proofs::NodeLemmas::trees_snoc))]
 fn append(nodes: &mut Vec<Node>, shape: Shape, span: Span) -> Result<u32, AllocError>
     requires { length nodes.old.items < 2 ^ 32 }
-    ensures trees { IfOk result (λ id. trees_of nodes.new.items ≡ trees_of nodes.old.items ++ (built (trees_of nodes.old.items) shape ∷ [])) }
+    ensures trees { IfOk result (λ id.
+        trees_of nodes.new.items
+        ≡ trees_of nodes.old.items ++ (built (trees_of nodes.old.items) shape ∷ [])) }
     ensures id { IfOk result (λ id. id ≡ length nodes.old.items) }
     ensures len { IfOk result (λ id. length nodes.new.items ≡ length nodes.old.items + 1) }
     ensures nodes { IfOk result (λ id. with_node nodes.old.items shape span ≡ (nodes.new.items, id)) }
@@ -83,7 +85,8 @@ fn append(nodes: &mut Vec<Node>, shape: Shape, span: Span) -> Result<u32, AllocE
 pub fn add(nodes: &mut Vec<Node>, shape: Shape, span: Span) -> Result<u32, AllocError>
     requires { length nodes.old.items < 2 ^ 32 }
     ensures adds { OnOk result (Adds (trees_of nodes.old.items) (trees_of nodes.new.items)) }
-    ensures tree { IfOk result (λ id. tree_at (trees_of nodes.new.items) id ≡ built (trees_of nodes.old.items) shape) }
+    ensures tree { IfOk result (λ id.
+        tree_at (trees_of nodes.new.items) id ≡ built (trees_of nodes.old.items) shape) }
     ensures id { IfOk result (λ id. id < length nodes.new.items) }
     ensures len { OnOk result (length nodes.new.items ≡ length nodes.old.items + 1) }
     ensures nodes { IfOk result (λ id. with_node nodes.old.items shape span ≡ (nodes.new.items, id)) }

@@ -24,7 +24,10 @@ pub fn join(nodes: &mut Vec<Node>, before: Option<u32>, last: u32) -> Result<u32
     requires before { InOption (length nodes.old.items) before }
     requires last { last < length nodes.old.items }
     ensures adds { OnOk result (Adds (trees_of nodes.old.items) (trees_of nodes.new.items)) }
-    ensures tree { IfOk result (λ id. tree_at (trees_of nodes.new.items) id ≡ joined (opt_tree (trees_of nodes.old.items) before) (tree_at (trees_of nodes.old.items) last)) }
+    ensures tree { IfOk result (λ id.
+        tree_at (trees_of nodes.new.items) id
+        ≡ joined (opt_tree (trees_of nodes.old.items) before) (tree_at (trees_of
+        nodes.old.items) last)) }
     ensures id { IfOk result (λ id. id < length nodes.new.items) }
     ensures len { OnOk result (length nodes.old.items ≤ length nodes.new.items) }
     ensures few { OnOk result (length nodes.new.items ≤ length nodes.old.items + 1) }
@@ -50,7 +53,10 @@ pub fn alternative(
     requires before { InOption (length nodes.old.items) before }
     requires last { InOption (length nodes.old.items) last }
     ensures adds { OnOk result (Adds (trees_of nodes.old.items) (trees_of nodes.new.items)) }
-    ensures tree { IfOk result (λ id. tree_at (trees_of nodes.new.items) id ≡ alternative_of (opt_tree (trees_of nodes.old.items) before) (opt_tree (trees_of nodes.old.items) last)) }
+    ensures tree { IfOk result (λ id.
+        tree_at (trees_of nodes.new.items) id
+        ≡ alternative_of (opt_tree (trees_of nodes.old.items) before) (opt_tree (trees_of
+        nodes.old.items) last)) }
     ensures id { IfOk result (λ id. id < length nodes.new.items) }
     ensures len { OnOk result (length nodes.old.items ≤ length nodes.new.items) }
     ensures few { OnOk result (length nodes.new.items ≤ length nodes.old.items + 1) }
@@ -68,7 +74,9 @@ pub fn close(nodes: &mut Vec<Node>, part: Part, end: usize) -> Result<u32, Alloc
     requires room { length nodes.old.items + 1 < 2 ^ 32 }
     requires part { InPart (length nodes.old.items) part }
     ensures adds { OnOk result (Adds (trees_of nodes.old.items) (trees_of nodes.new.items)) }
-    ensures tree { IfOk result (λ id. tree_at (trees_of nodes.new.items) id ≡ whole (frame_of (trees_of nodes.old.items) part)) }
+    ensures tree { IfOk result (λ id.
+        tree_at (trees_of nodes.new.items) id
+        ≡ whole (frame_of (trees_of nodes.old.items) part)) }
     ensures id { IfOk result (λ id. id < length nodes.new.items) }
     ensures len { OnOk result (length nodes.old.items ≤ length nodes.new.items) }
     ensures few { OnOk result (length nodes.new.items ≤ length nodes.old.items + 2) }
@@ -91,11 +99,15 @@ pub fn extend(nodes: &mut Vec<Node>, part: Part, id: u32) -> Result<Part, AllocE
     requires part { InPart (length nodes.old.items) part }
     requires id { id < length nodes.old.items }
     ensures adds { OnOk result (Adds (trees_of nodes.old.items) (trees_of nodes.new.items)) }
-    ensures frame { IfOk result (λ p. frame_of (trees_of nodes.new.items) p ≡ push (tree_at (trees_of nodes.old.items) id) (frame_of (trees_of nodes.old.items) part)) }
+    ensures frame { IfOk result (λ p.
+        frame_of (trees_of nodes.new.items) p
+        ≡ push (tree_at (trees_of nodes.old.items) id) (frame_of (trees_of nodes.old.items)
+        part)) }
     ensures part { IfOk result (λ p. InPart (length nodes.new.items) p) }
     ensures len { OnOk result (length nodes.old.items ≤ length nodes.new.items) }
     ensures few { OnOk result (length nodes.new.items ≤ length nodes.old.items + 1) }
-    ensures nodes { IfOk result (λ p. with_last nodes.old.items part.before part.last ≡ (nodes.new.items, p.before)) }
+    ensures nodes { IfOk result (λ p.
+        with_last nodes.old.items part.before part.last ≡ (nodes.new.items, p.before)) }
     ensures done { IfOk result (λ p. p.done ≡ part.done) }
     ensures last { IfOk result (λ p. p.last ≡ Some id) }
 {

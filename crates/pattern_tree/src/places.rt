@@ -37,7 +37,8 @@ pub struct Places {
 
 /// The name of a group.
 fn name_of(mark: &Mark) -> Option<&str>
-    ensures { MatchOption result (mark_names (mark_of mark.now) ≡ []) (λ n. mark_names (mark_of mark.now) ≡ n.now ∷ []) }
+    ensures { MatchOption result (mark_names (mark_of mark.now) ≡ []) (λ n.
+        mark_names (mark_of mark.now) ≡ n.now ∷ []) }
 {
     match mark {
         Mark::Named(name) => Some(name.as_str()),
@@ -49,7 +50,8 @@ fn name_of(mark: &Mark) -> Option<&str>
 fn begun_before(outer: &[Scope], place: usize) -> usize
     requires { StartsRise outer.now }
     ensures len { result ≤ length outer.now }
-    ensures point { IsPartitionPoint (λ s. nat_lt s.start place ≡ true) (λ s. nat_lt s.start place ≡ false) outer.now result }
+    ensures point { IsPartitionPoint (λ s.
+        nat_lt s.start place ≡ true) (λ s. nat_lt s.start place ≡ false) outer.now result }
 {
     outer.partition_point(|scope| scope.start < place)
 }
@@ -84,7 +86,9 @@ impl Places {
     fn name(&mut self, alloc: Global, name: &str, start: usize) -> Result<bool, AllocError>
         requires { StartsRise self.old.outer.items }
         ensures free { IfOk result (λ yes. yes ≡ not (taken self.old name.now)) }
-        ensures place { IfOk result (λ yes. yes ≡ true → (q : List ℕ) → place_of self.new q ≡ update bytes_eq (place_of self.old) name.now (Some start) q) }
+        ensures place { IfOk result (λ yes.
+            yes ≡ true → (q : List ℕ) → place_of self.new q
+            ≡ update bytes_eq (place_of self.old) name.now (Some start) q) }
         ensures outer { OnOk result (self.new.outer ≡ self.old.outer) }
         ensures alternative { OnOk result (self.new.alternative ≡ self.old.alternative) }
     {
@@ -98,7 +102,12 @@ impl Places {
 
     fn push(&mut self, start: usize, end: usize) -> Result<(), AllocError>
         ensures latest { self.new.latest ≡ self.old.latest }
-        ensures outer { OnOk result (self.new.outer.items ≡ self.old.outer.items ++ ((record { start = start; alternative = self.old.alternative }) ∷ [])) }
+        ensures outer { OnOk result (self.new.outer.items
+            ≡ self.old.outer.items ++ ((record {
+              start = start;
+              alternative =
+                  self.old.alternative;
+            }) ∷ [])) }
         ensures alternative { OnOk result (self.new.alternative ≡ end) }
     {
         self.outer.push(Scope {
@@ -118,7 +127,9 @@ impl Places {
     ) -> Result<bool, AllocError>
         requires from { start < end }
         requires rise { StartsRise self.old.outer.items }
-        ensures { IfOk result (λ yes. (s : State) → Placed self.old s start → Allows (tree.Token.opens (mark_of mark.now)) s end self.new yes) }
+        ensures { IfOk result (λ yes.
+            (s : State) → Placed self.old s start →
+            Allows (tree.Token.opens (mark_of mark.now)) s end self.new yes) }
     {
         match name_of(mark) {
             None => {
@@ -154,7 +165,9 @@ impl Places {
     ) -> Result<bool, AllocError>
         requires from { start < end }
         requires rise { StartsRise self.old.outer.items }
-        ensures { IfOk result (λ yes. (s : State) → Placed self.old s start → Allows (token_of token.now) s end self.new yes) }
+        ensures { IfOk result (λ yes.
+            (s : State) → Placed self.old s start →
+            Allows (token_of token.now) s end self.new yes) }
     {
         match token {
             Token::Opens(mark) => self.open(alloc, mark, start, end),

@@ -42,7 +42,8 @@ impl Reader {
         requires room { length self.old.nodes.items + 4 ≤ 2 ^ 32 }
         requires inside { InReader self.old }
         ensures step { OnOk result (StepsTo (tree.Token.leaf (leaf_of single)) self.old self.new) }
-        ensures stands { OnOk result (StandsOn (tree.Token.leaf (leaf_of single)) span.start span.end self.old self.new) }
+        ensures stands { OnOk result (StandsOn (tree.Token.leaf (leaf_of single)) span.start span.end self.old
+            self.new) }
     {
         let id = add(&mut self.nodes, Shape::Single(single), span)?;
         self.here = extend(&mut self.nodes, self.here, id)?;
@@ -52,7 +53,8 @@ impl Reader {
     fn open(&mut self, mark: Mark, start: usize) -> Result<(), AllocError>
         requires inside { InReader self.old }
         ensures step { OnOk result (StepsTo (tree.Token.opens (mark_of mark)) self.old self.new) }
-        ensures stands { OnOk result ((end : ℕ) → StandsOn (tree.Token.opens (mark_of mark)) start end self.old self.new) }
+        ensures stands { OnOk result ((end : ℕ) →
+            StandsOn (tree.Token.opens (mark_of mark)) start end self.old self.new) }
     {
         self.outer.push(Open {
             mark,
@@ -86,7 +88,8 @@ impl Reader {
         requires room { length self.old.nodes.items + 4 ≤ 2 ^ 32 }
         requires inside { InReader self.old }
         ensures step { IfOk result (λ yes. Moves tree.Token.closes self.old self.new yes) }
-        ensures stands { IfOk result (λ yes. yes ≡ true → StandsOn tree.Token.closes span.start span.end self.old self.new) }
+        ensures stands { IfOk result (λ yes.
+            yes ≡ true → StandsOn tree.Token.closes span.start span.end self.old self.new) }
     {
         let Some(open) = self.outer.pop() else {
             return Ok(false);
@@ -106,7 +109,9 @@ impl Reader {
         requires room { length self.old.nodes.items + 4 ≤ 2 ^ 32 }
         requires inside { InReader self.old }
         ensures step { IfOk result (λ yes. Moves (tree.Token.times (bounds_of counts)) self.old self.new yes) }
-        ensures stands { IfOk result (λ yes. yes ≡ true → (start : ℕ) → StandsOn (tree.Token.times (bounds_of counts)) start end self.old self.new) }
+        ensures stands { IfOk result (λ yes.
+            yes ≡ true → (start : ℕ) →
+            StandsOn (tree.Token.times (bounds_of counts)) start end self.old self.new) }
     {
         let Some(id) = self.here.last else {
             return Ok(false);
@@ -131,7 +136,8 @@ impl Reader {
         requires room { length self.old.nodes.items + 4 ≤ 2 ^ 32 }
         requires inside { InReader self.old }
         ensures step { IfOk result (λ yes. Moves (token_of token) self.old self.new yes) }
-        ensures stands { IfOk result (λ yes. yes ≡ true → StandsOn (token_of token) span.start span.end self.old self.new) }
+        ensures stands { IfOk result (λ yes.
+            yes ≡ true → StandsOn (token_of token) span.start span.end self.old self.new) }
     {
         match token {
             Token::Single(single) => {
@@ -156,8 +162,10 @@ fn finish(mut reader: Reader, end: usize) -> Result<Option<Pattern>, AllocError>
     requires room { length reader.nodes.items + 4 ≤ 2 ^ 32 }
     requires inside { InReader reader }
     requires stands { (wide : Bool) × (x : Text) × ReaderStands wide x reader end }
-    ensures tree { IfOk result (λ o. finished (state_of reader).here (state_of reader).outer ≡ option_map tree_of o) }
-    ensures spans { IfOk result (λ o. IfSome o (λ p. (wide : Bool) (x : Text) → ReaderStands wide x reader end → SpansStand wide x p end)) }
+    ensures tree { IfOk result (λ o.
+        finished (state_of reader).here (state_of reader).outer ≡ option_map tree_of o) }
+    ensures spans { IfOk result (λ o. IfSome o (λ p.
+        (wide : Bool) (x : Text) → ReaderStands wide x reader end → SpansStand wide x p end)) }
 {
     if reader.outer.len() > 0 {
         return Ok(None);
@@ -171,7 +179,9 @@ fn finish(mut reader: Reader, end: usize) -> Result<Option<Pattern>, AllocError>
 
 /// Whether each back-reference has its group.
 fn are_met(counters: Counters, places: &Places) -> bool
-    ensures { result ≡ (nat_le counters.highest counters.groups && has_all places.now (map string_bytes counters.references.items)) }
+    ensures { result
+        ≡ (nat_le counters.highest counters.groups && has_all places.now (map string_bytes
+        counters.references.items)) }
 {
     counters.highest <= counters.groups && places.has_all(counters.references)
 }

@@ -32,7 +32,8 @@ pub enum Token {
 
 #[tactic(auto, unfolding(pattern_model::specs::Quantifiers::quantifier))]
 fn quantifier(least: Count, most: Option<Count>, x: &str) -> (Token, &str)
-    ensures value { quantifier (count_in least) (option_map count_in most) (chars x.now) ≡ (token_of result.0, chars result.1.now) }
+    ensures value { quantifier (count_in least) (option_map count_in most) (chars x.now)
+        ≡ (token_of result.0, chars result.1.now) }
     ensures len { length result.1.now ≤ length x.now }
 {
     let lazy = is_at('?', x);
@@ -44,7 +45,8 @@ fn quantifier(least: Count, most: Option<Count>, x: &str) -> (Token, &str)
 #[tactic(auto, unfolding(pattern_model::specs::Quantifiers::after_comma))]
 fn after_comma<'a>(number: u64, least: &str, x: &'a str) -> Option<(Token, &'a str)>
     requires { IsCapped number (parts.digits (chars least.now)).0 }
-    ensures value { after_comma (parts.digits (chars least.now)).0 (chars x.now) ≡ option_map (λ p. (token_of p.0, chars p.1.now)) result }
+    ensures value { after_comma (parts.digits (chars least.now)).0 (chars x.now) ≡ option_map (λ p.
+        (token_of p.0, chars p.1.now)) result }
     ensures len { IfSome result (λ p. length p.1.now ≤ length x.now) }
 {
     if is_at('}', x) {
@@ -130,7 +132,8 @@ fn flags(x: &str) -> Option<&str>
 /// After `(?<`.
 #[tactic(auto, unfolding(pattern_model::specs::Groups::bracketed))]
 fn bracketed(alloc: Global, x: &str) -> Result<Option<(Token, &str)>, AllocError>
-    ensures value { IfOk result (λ o. bracketed (chars x.now) ≡ option_map (λ p. (token_of p.0, chars p.1.now)) o) }
+    ensures value { IfOk result (λ o.
+        bracketed (chars x.now) ≡ option_map (λ p. (token_of p.0, chars p.1.now)) o) }
     ensures len { IfOk result (λ o. IfSome o (λ p. length p.1.now ≤ length x.now)) }
 {
     if is_at('=', x) {
@@ -191,7 +194,8 @@ fn class_from(
     x: &str,
 ) -> Result<Option<(Token, &str)>, AllocError>
     requires { length x.now ≤ total }
-    ensures value { IfOk result (λ o. class_from wide (chars x.now) ≡ option_map (λ p. (token_of p.0, chars p.1.now)) o) }
+    ensures value { IfOk result (λ o.
+        class_from wide (chars x.now) ≡ option_map (λ p. (token_of p.0, chars p.1.now)) o) }
     ensures len { IfOk result (λ o. IfSome o (λ p. length p.1.now ≤ length x.now)) }
 {
     let negated = is_at('^', x);
@@ -208,7 +212,8 @@ fn class_from(
 /// A back-reference by name, after its `k`.
 #[tactic(auto, unfolding(pattern_model::specs::Tokens::back_name))]
 fn back_name(alloc: Global, x: &str) -> Result<Option<(Token, &str)>, AllocError>
-    ensures value { IfOk result (λ o. back_name (chars x.now) ≡ option_map (λ p. (token_of p.0, chars p.1.now)) o) }
+    ensures value { IfOk result (λ o.
+        back_name (chars x.now) ≡ option_map (λ p. (token_of p.0, chars p.1.now)) o) }
     ensures len { IfOk result (λ o. IfSome o (λ p. length p.1.now ≤ length x.now)) }
 {
     if !is_at('<', x) {
@@ -229,7 +234,8 @@ fn property_leaf(negated: bool, x: &str) -> Option<(Token, &str)>
 }
 
 fn escape_or_code(c: char, x: &str) -> Option<(Token, &str)>
-    ensures value { grammar.escape_or_code c (chars x.now) (escapes.class_escape c) ≡ option_map (λ p. (token_of p.0, chars p.1.now)) result }
+    ensures value { grammar.escape_or_code c (chars x.now) (escapes.class_escape c) ≡ option_map (λ p.
+        (token_of p.0, chars p.1.now)) result }
     ensures len { IfSome result (λ p. length p.1.now ≤ length x.now) }
 {
     if let Some(escape) = class_escape(c) {
@@ -241,7 +247,8 @@ fn escape_or_code(c: char, x: &str) -> Option<(Token, &str)>
 
 /// A back-reference by number: none where the number is 2^32 or more, which no group has.
 fn back_number(x: &str) -> Option<(Token, &str)>
-    ensures some { IfSome result (λ p. grammar.leaf_of_number (parts.digits (chars x.now)) ≡ (token_of p.0, chars p.1.now)) }
+    ensures some { IfSome result (λ p.
+        grammar.leaf_of_number (parts.digits (chars x.now)) ≡ (token_of p.0, chars p.1.now)) }
     ensures none { IfNone result (4294967296 ≤ (parts.digits (chars x.now)).0) }
     ensures len { IfSome result (λ p. length p.1.now ≤ length x.now) }
 {
@@ -256,7 +263,8 @@ fn back_number(x: &str) -> Option<(Token, &str)>
 /// After a backslash.
 #[tactic(auto, unfolding(pattern_model::specs::Tokens::escaped))]
 fn escaped(alloc: Global, x: &str) -> Result<Option<(Token, &str)>, AllocError>
-    ensures some { IfOk result (λ o. IfSome o (λ p. escaped (chars x.now) ≡ Some (token_of p.0, chars p.1.now))) }
+    ensures some { IfOk result (λ o. IfSome o (λ p.
+        escaped (chars x.now) ≡ Some (token_of p.0, chars p.1.now))) }
     ensures none { IfOk result (λ o. IfNone o (IsRefused (escaped (chars x.now)))) }
     ensures len { IfOk result (λ o. IfSome o (λ p. length p.1.now ≤ length x.now)) }
 {
@@ -285,7 +293,8 @@ pub(crate) fn token_from(
     x: &str,
 ) -> Result<Option<(Token, &str)>, AllocError>
     requires { length x.now ≤ total }
-    ensures some { IfOk result (λ o. IfSome o (λ p. token_from wide c (chars x.now) ≡ Some (token_of p.0, chars p.1.now))) }
+    ensures some { IfOk result (λ o. IfSome o (λ p.
+        token_from wide c (chars x.now) ≡ Some (token_of p.0, chars p.1.now))) }
     ensures none { IfOk result (λ o. IfNone o (IsRefused (token_from wide c (chars x.now)))) }
     ensures len { IfOk result (λ o. IfSome o (λ p. length p.1.now ≤ length x.now)) }
 {

@@ -10,9 +10,11 @@ use Rattle.pattern_tree.proofs.members.items_have.Goals as goal
 pub returns-then-form_has : goal.returns-then-form_has
 returns-then-form_has c =
     sym (any_item c.args.items.now c.args.code
-    ∙ list_any_at (λ i. item_has (item_of i) c.args.code) c.args.items.now c.loop-item.item-index _ (omega arith) (sym c.if-form_has.ensures))
+    ∙ list_any_at (λ i. item_has (item_of i) c.args.code) c.args.items.now c.loop-item.item-index _ (omega arith)
+    (sym c.if-form_has.ensures))
 
 pub returns : goal.returns
 returns c =
     sym (any_item c.args.items.now c.args.code
-    ∙ (ap (list_any (λ i. item_has (item_of i) c.args.code)) (sym (take_all c.loop-item.item-index c.args.items.now c.loop-item-test.false)) ∙ c.loop-item.invariant))
+    ∙ (ap (list_any (λ i. item_has (item_of i) c.args.code)) (sym (take_all c.loop-item.item-index c.args.items.now c.loop-item-test.false))
+    ∙ c.loop-item.invariant))

@@ -15,4 +15,5 @@ returns-else-left_run-right_run c =
     let f = c.run-right_run.ensures in
     let ne : (run x ≡ run y) → ⊥ = λ k. c.if-left_run-right_run.false (e ∙ (k ∙ sym f)) in
     ap (λ z. nat_lt z c.run-right_run.result) e ∙ (ap (λ z. nat_lt (run x) z) f
-    ∙ runs_decide x y _ _ c.past_zeros-left.ensures.first c.past_zeros-right.ensures.first ne c.past_zeros-left.ensures.value c.past_zeros-right.ensures.value)
+    ∙ runs_decide x y _ _ c.past_zeros-left.ensures.first c.past_zeros-right.ensures.first ne c.past_zeros-left.ensures.value
+    c.past_zeros-right.ensures.value)

@@ -15,7 +15,8 @@ loop-c-preserved c =
       (
         10 * n + (c.in-Some.c - 48),
         c.shifted-number.ensures n k,
-        sym (digits_on n c.in-Some.c (chars c.in-Some.next.now) (chars c.loop-c.after.now) c.in-Some.ensures.0 (sym c.if-not-is_digit.ensures)) ∙ e,
+        sym (digits_on n c.in-Some.c (chars c.in-Some.next.now) (chars c.loop-c.after.now) c.in-Some.ensures.0
+            (sym c.if-not-is_digit.ensures)) ∙ e,
       ),
       omega (arith, c.in-Some.ensures.1, c.loop-c.invariant.2),
     )

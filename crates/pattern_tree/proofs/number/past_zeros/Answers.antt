@@ -7,5 +7,6 @@ pub loop-c-preserved : goal.loop-c-preserved
 unfolding digits
 loop-c-preserved c = (
   search rules,
-  sym (ap (digits_from 0) c.in-Some.ensures.0 ∙ ap (λ z. digits_from 0 (z ∷ chars c.in-Some.next.now)) c.if-c-ne48.false) ∙ c.loop-c.invariant.1,
+  sym (ap (digits_from 0) c.in-Some.ensures.0 ∙ ap (λ z. digits_from 0 (z ∷ chars c.in-Some.next.now)) c.if-c-ne48.false)
+      ∙ c.loop-c.invariant.1,
 )

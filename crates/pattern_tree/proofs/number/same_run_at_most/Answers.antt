@@ -11,12 +11,14 @@ loop-c-init c = (c.utf8.x, c.utf8.y, c.requires, (0, refl, refl))
 pub returns-then-not-is_digit : goal.returns-then-not-is_digit
 returns-then-not-is_digit c =
     let (n, e, f) = c.loop-c.invariant.3 in
-    same_end n c.in-Some.c (chars c.in-Some.left_next.now) (chars c.loop-c.left.now) (chars c.loop-c.right.now) _ _ c.in-Some.ensures.0 (sym c.if-not-is_digit.ensures) c.loop-c.invariant.2 e f
+    same_end n c.in-Some.c (chars c.in-Some.left_next.now) (chars c.loop-c.left.now) (chars c.loop-c.right.now) _ _ c.in-Some.ensures.0
+    (sym c.if-not-is_digit.ensures) c.loop-c.invariant.2 e f
 
 pub returns-then-c-d : goal.returns-then-c-d
 returns-then-c-d c =
     let (n, e, f) = c.loop-c.invariant.3 in
-    same_decides n c.in-Some.c c.in-Some-split_first.d (chars c.in-Some.left_next.now) (chars c.in-Some-split_first.right_next.now) (chars c.loop-c.left.now) (chars c.loop-c.right.now) _ _
+    same_decides n c.in-Some.c c.in-Some-split_first.d (chars c.in-Some.left_next.now) (chars c.in-Some-split_first.right_next.now)
+    (chars c.loop-c.left.now) (chars c.loop-c.right.now) _ _
     c.in-Some.ensures.0 c.in-Some-split_first.ensures.0 (sym c.if-not-is_digit.ensures) c.if-c-d.true c.loop-c.invariant.2 e f
 
 pub returns : goal.returns

@@ -6,4 +6,5 @@ use Rattle.pattern_tree.proofs.places.begun_before.Goals as goal
 pub returns-clause-point : goal.returns-clause-point
 returns-clause-point c =
     let parted = IsPartitionedBy-ltb (λ s. s.start) _ c.args.place c.requires in
-    IsPartitionPoint-from_clause (λ s. nat_lt s.start c.args.place) _ _ c.partition_point.ensures.partitioned parted (λ a r q k. search rules)
+    IsPartitionPoint-from_clause (λ s. nat_lt s.start c.args.place) _ _ c.partition_point.ensures.partitioned parted
+    (λ a r q k. search rules)

@@ -23,11 +23,16 @@ loop-c-init c =
     let b = begun c.new-4.result c.new-5.result c.new-5.ensures.items in record {
       utf8 = c.utf8.text;
       leads = subst (λ z. Leads c.args.wide x z x) (sym b) (leads_first c.args.wide x);
-      inside = record { here = record { done = tt; before = tt; last = tt }; outer = subst (λ z. InOuter (length c.new-4.result.items) z) (sym c.new-5.ensures.items) tt };
+      inside = record {
+        here = record { done = tt; before = tt; last = tt };
+        outer =
+            subst (λ z. InOuter (length c.new-4.result.items) z) (sym c.new-5.ensures.items) tt;
+      };
       few = omega (arith, ap length c.new-4.ensures.items);
       short = omega arith;
       total = refl;
-      told = subst (λ z. Told (record { groups = 0; highest = 0; references = c.new.result }) (spelled z)) (sym b) (told_first c.new.result c.new.ensures.items);
+      told = subst (λ z. Told (record { groups = 0; highest = 0; references = c.new.result }) (spelled z)) (sym b)
+          (told_first c.new.result c.new.ensures.items);
       groups = omega arith;
       after = subst (λ z. IsAfter x z x) (sym none) (after_first x);
       stands = first_stands c.args.wide x c.new-4.result c.new-5.result _ c.new-4.ensures.items c.new-5.ensures.items none;
@@ -39,25 +44,33 @@ take-requires-in-Some-clause-rise c = starts_rise c.loop-c.places (state_of c.lo
 
 pub returns-in_default-read-clause-none : goal.returns-in_default-read-clause-none
 returns-in_default-read-clause-none c =
-    no_token c.args.wide (chars c.args.text.now) (state_of c.loop-c.reader) (chars c.loop-c.rest.now) c.in-Some.c (chars c.in-Some.after.now) (few_chars c.args.text.now c.utf8.text c.requires) c.loop-c.invariant.leads c.in-Some.ensures.0 (rw c.in_default-read.is at c.in_ok-read.ensures.none)
+    no_token c.args.wide (chars c.args.text.now) (state_of c.loop-c.reader) (chars c.loop-c.rest.now) c.in-Some.c
+    (chars c.in-Some.after.now) (few_chars c.args.text.now c.utf8.text c.requires) c.loop-c.invariant.leads c.in-Some.ensures.0
+    (rw c.in_default-read.is at c.in_ok-read.ensures.none)
 
 pub returns-then-not-branch-clause-none : goal.returns-then-not-branch-clause-none
 returns-then-not-branch-clause-none c =
-    no_name c.args.wide (chars c.args.text.now) (state_of c.loop-c.reader) c.take-in-Some.new.self _ (chars c.loop-c.rest.now) c.in-Some.c (chars c.in-Some.after.now) (chars c.in-Some-read.next.now) (token_of c.in-Some-read.token) c.in_ok-take-2.field-0
-    c.loop-c.invariant.leads c.in-Some.ensures.0 (rw c.in-Some-read.is at c.in_ok-read.ensures.some) (c.in_ok-take-2.ensures (state_of c.loop-c.reader) c.loop-c.invariant.placed) c.if-not-branch.true
+    no_name c.args.wide (chars c.args.text.now) (state_of c.loop-c.reader) c.take-in-Some.new.self _ (chars c.loop-c.rest.now) c.in-Some.c
+    (chars c.in-Some.after.now) (chars c.in-Some-read.next.now) (token_of c.in-Some-read.token) c.in_ok-take-2.field-0
+    c.loop-c.invariant.leads c.in-Some.ensures.0 (rw c.in-Some-read.is at c.in_ok-read.ensures.some)
+    (c.in_ok-take-2.ensures (state_of c.loop-c.reader) c.loop-c.invariant.placed) c.if-not-branch.true
 
 pub returns-then-not-branch-2-clause-none : goal.returns-then-not-branch-2-clause-none
 returns-then-not-branch-2-clause-none c =
-    no_step c.args.wide (chars c.args.text.now) c.loop-c.reader c.step.new.self (chars c.loop-c.rest.now) c.in-Some.c (chars c.in-Some.after.now) (chars c.in-Some-read.next.now) (token_of c.in-Some-read.token) c.in_ok-step.field-0
-    c.loop-c.invariant.leads c.in-Some.ensures.0 (rw c.in-Some-read.is at c.in_ok-read.ensures.some) c.in_ok-step.ensures.step c.if-not-branch-2.true
+    no_step c.args.wide (chars c.args.text.now) c.loop-c.reader c.step.new.self (chars c.loop-c.rest.now) c.in-Some.c
+    (chars c.in-Some.after.now) (chars c.in-Some-read.next.now) (token_of c.in-Some-read.token) c.in_ok-step.field-0
+    c.loop-c.invariant.leads c.in-Some.ensures.0 (rw c.in-Some-read.is at c.in_ok-read.ensures.some) c.in_ok-step.ensures.step
+    c.if-not-branch-2.true
 
 pub loop-c-preserved : goal.loop-c-preserved
 loop-c-preserved c =
     let old = state_of c.loop-c.reader in
     let new = state_of c.step.new.self in
     let t = token_of c.in-Some-read.token in
-    let s : StepsTo t c.loop-c.reader c.step.new.self = one_step _ _ _ c.in_ok-step.field-0 c.in_ok-step.ensures.step c.if-not-branch-2.false in
-    let m = may_stand t old _ c.take-in-Some.new.self c.in_ok-take-2.field-0 (c.in_ok-take-2.ensures old c.loop-c.invariant.placed) c.if-not-branch.false in
+    let s : StepsTo t c.loop-c.reader c.step.new.self =
+    one_step _ _ _ c.in_ok-step.field-0 c.in_ok-step.ensures.step c.if-not-branch-2.false in
+    let m = may_stand t old _ c.take-in-Some.new.self c.in_ok-take-2.field-0 (c.in_ok-take-2.ensures old c.loop-c.invariant.placed)
+    c.if-not-branch.false in
     let g : Goes old new t = step_goes t old new s.step c.loop-c.invariant.leads.fine in
     let l = rw c.in-Some-read.is at c.in_ok-read.ensures.len in
     let x = chars c.args.text.now in
@@ -69,17 +82,28 @@ loop-c-preserved c =
     let read = rw c.in-Some-read.is at c.in_ok-read.ensures.some in
     let after : IsAfter x end (chars c.in-Some-read.next.now) =
     token_after c.args.wide x (chars c.loop-c.rest.now) start end c.in-Some.c (chars c.in-Some.after.now) (chars c.in-Some-read.next.now) t
-    c.loop-c.invariant.after c.in-Some.ensures.0 read (omega (arith, bytes, left, c.loop-c.invariant.total, c.loop-c.invariant.short, c.in-Some.ensures.1, l)) in
-    let token = token_stands c.args.wide x (chars c.loop-c.rest.now) start end c.in-Some.c (chars c.in-Some.after.now) (chars c.in-Some-read.next.now) t
+    c.loop-c.invariant.after c.in-Some.ensures.0 read (omega (
+      arith,
+      bytes,
+      left,
+      c.loop-c.invariant.total,
+      c.loop-c.invariant.short,
+      c.in-Some.ensures.1,
+      l,
+    )) in
+    let token = token_stands c.args.wide x (chars c.loop-c.rest.now) start end c.in-Some.c (chars c.in-Some.after.now)
+    (chars c.in-Some-read.next.now) t
     c.loop-c.invariant.after c.in-Some.ensures.0 read after in record {
       utf8 = u;
-      leads = goes c.args.wide (chars c.args.text.now) c.loop-c.reader c.step.new.self (chars c.loop-c.rest.now) c.in-Some.c (chars c.in-Some.after.now) (chars c.in-Some-read.next.now) t
+      leads = goes c.args.wide (chars c.args.text.now) c.loop-c.reader c.step.new.self (chars c.loop-c.rest.now) c.in-Some.c
+          (chars c.in-Some.after.now) (chars c.in-Some-read.next.now) t
           c.loop-c.invariant.leads c.in-Some.ensures.0 (rw c.in-Some-read.is at c.in_ok-read.ensures.some) m.0 s;
       inside = s.inside;
       few = omega (arith, s.few, c.loop-c.invariant.few, c.in-Some.ensures.1, l);
       short = omega (arith, c.loop-c.invariant.short, c.in-Some.ensures.1, l);
       total = refl;
-      told = told_more c.loop-c.counters c.take.new.self (spelled old) (spelled new) t g.spelled c.loop-c.invariant.told c.in_ok-take.ensures.groups c.in_ok-take.ensures.highest c.in_ok-take.ensures.references;
+      told = told_more c.loop-c.counters c.take.new.self (spelled old) (spelled new) t g.spelled c.loop-c.invariant.told
+          c.in_ok-take.ensures.groups c.in_ok-take.ensures.highest c.in_ok-take.ensures.references;
       groups = omega (arith, captures_one t, c.in_ok-take.ensures.groups, c.loop-c.invariant.groups, c.in-Some.ensures.1, l);
       after = after;
       stands = c.in_ok-step.ensures.stands c.if-not-branch-2.false c.args.wide x c.loop-c.invariant.stands token;
@@ -88,21 +112,32 @@ loop-c-preserved c =
 
 pub returns-then-not-are_met-clause-none : goal.returns-then-not-are_met-clause-none
 returns-then-not-are_met-clause-none c =
-    failed c.args.wide (chars c.args.text.now) c.loop-c.counters c.loop-c.places (state_of c.loop-c.reader) _ (subst (λ z. Leads c.args.wide (chars c.args.text.now) (state_of c.loop-c.reader) z) c.in_default.ensures c.loop-c.invariant.leads) c.loop-c.invariant.told c.loop-c.invariant.placed (sym c.if-not-are_met.ensures)
+    failed c.args.wide (chars c.args.text.now) c.loop-c.counters c.loop-c.places (state_of c.loop-c.reader) _
+    (subst (λ z. Leads c.args.wide (chars c.args.text.now) (state_of c.loop-c.reader) z) c.in_default.ensures c.loop-c.invariant.leads)
+    c.loop-c.invariant.told c.loop-c.invariant.placed (sym c.if-not-are_met.ensures)
 
 pub returns-clause-some : goal.returns-clause-some
 returns-clause-some c =
-    ended_some c.args.wide (chars c.args.text.now) c.loop-c.counters c.loop-c.places (state_of c.loop-c.reader) _ c.finish.result (subst (λ z. Leads c.args.wide (chars c.args.text.now) (state_of c.loop-c.reader) z) c.in_default.ensures c.loop-c.invariant.leads) c.loop-c.invariant.told c.loop-c.invariant.placed (sym c.if-not-are_met.ensures) c.finish.ensures.tree
+    ended_some c.args.wide (chars c.args.text.now) c.loop-c.counters c.loop-c.places (state_of c.loop-c.reader) _ c.finish.result
+    (subst (λ z. Leads c.args.wide (chars c.args.text.now) (state_of c.loop-c.reader) z) c.in_default.ensures c.loop-c.invariant.leads)
+    c.loop-c.invariant.told c.loop-c.invariant.placed (sym c.if-not-are_met.ensures) c.finish.ensures.tree
 
 pub returns-clause-none : goal.returns-clause-none
 returns-clause-none c =
-    ended_none c.args.wide (chars c.args.text.now) (state_of c.loop-c.reader) c.finish.result (subst (λ z. Leads c.args.wide (chars c.args.text.now) (state_of c.loop-c.reader) z) c.in_default.ensures c.loop-c.invariant.leads) c.finish.ensures.tree
+    ended_none c.args.wide (chars c.args.text.now) (state_of c.loop-c.reader) c.finish.result
+    (subst (λ z. Leads c.args.wide (chars c.args.text.now) (state_of c.loop-c.reader) z) c.in_default.ensures c.loop-c.invariant.leads)
+    c.finish.ensures.tree
 
 pub finish-requires-clause-stands : goal.finish-requires-clause-stands
-finish-requires-clause-stands c =
-    (c.args.wide, chars c.args.text.now, stands_at_end c.args.wide (chars c.args.text.now) c.loop-c.reader c.loop-c.rest.now _ c.loop-c.invariant.utf8 c.in_default.ensures c.loop-c.invariant.stands)
+finish-requires-clause-stands c = (
+  c.args.wide,
+  chars c.args.text.now,
+  stands_at_end c.args.wide (chars c.args.text.now) c.loop-c.reader c.loop-c.rest.now _
+      c.loop-c.invariant.utf8 c.in_default.ensures c.loop-c.invariant.stands,
+)
 
 pub returns-clause-spans : goal.returns-clause-spans
 returns-clause-spans c =
     ended_spans c.args.wide (chars c.args.text.now) c.loop-c.reader _ c.finish.result
-    (stands_at_end c.args.wide (chars c.args.text.now) c.loop-c.reader c.loop-c.rest.now _ c.loop-c.invariant.utf8 c.in_default.ensures c.loop-c.invariant.stands) c.finish.ensures.spans
+    (stands_at_end c.args.wide (chars c.args.text.now) c.loop-c.reader c.loop-c.rest.now _ c.loop-c.invariant.utf8 c.in_default.ensures
+    c.loop-c.invariant.stands) c.finish.ensures.spans

@@ -5,4 +5,5 @@ use Rattle.pattern_tree.proofs.FormLaws.{fact_at}
 use Rattle.pattern_tree.proofs.pattern.Pattern.items.Goals as goal
 
 pub returns : goal.returns
-returns c = fact_at tree_items c.args.self.now.nodes.items c.args.id.0 c.index.result.now (map item_of c.items_of.result.now) c.requires c.index.ensures c.items_of.ensures
+returns c = fact_at tree_items c.args.self.now.nodes.items c.args.id.0 c.index.result.now (map item_of c.items_of.result.now) c.requires
+    c.index.ensures c.items_of.ensures

@@ -10,4 +10,9 @@ returns-clause-stands c = λ end wide x r t.
     refl c.in_ok-push.ensures.items refl refl refl r t
 
 pub returns-clause-step : goal.returns-clause-step
-returns-clause-step c = opened (mark_of c.args.mark) c.args.self.now _ (record { mark = c.args.mark; part = c.args.self.now.here; start = c.args.start }) c.in_ok-push.ensures.items refl refl refl refl (record { done = tt; before = tt; last = tt }) c.requires.inside
+returns-clause-step c = opened (mark_of c.args.mark) c.args.self.now _ (record {
+  mark = c.args.mark;
+  part = c.args.self.now.here;
+  start =
+      c.args.start;
+}) c.in_ok-push.ensures.items refl refl refl refl (record { done = tt; before = tt; last = tt }) c.requires.inside

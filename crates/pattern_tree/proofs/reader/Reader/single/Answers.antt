@@ -21,6 +21,7 @@ returns-clause-step c =
     let f = c.in_ok-self.ensures in
     let l : tree.Tree = tree.leaf (leaf_of c.args.single) in
     goes_on (tree.Token.leaf (leaf_of c.args.single)) old _ (push l (frame_of a old.here)) refl
-    (f.frame ∙ (ap (λ z. push z (frame_of b old.here)) e.tree ∙ ap (push l) (frame_adds a b old.here e.adds (part_in old.nodes.items old.here c.requires.inside.here))))
+    (f.frame ∙ (ap (λ z. push z (frame_of b old.here)) e.tree
+    ∙ ap (push l) (frame_adds a b old.here e.adds (part_in old.nodes.items old.here c.requires.inside.here))))
     (adds_twice a b _ e.adds f.adds) refl c.requires.inside
     f.part (omega (arith, e.len, f.len)) (omega (arith, e.len, f.few))

@@ -14,11 +14,14 @@ returns-clause-stands c = λ yes start wide x r t.
     let from : c.start_of.result ≡ (span_at ns id).start = c.start_of.ensures ∙ ap (λ z. (span_at z id).start) c.deref-2.ensures.value in
     times_stands wide x c.args.self.now _ c.args.counts id c.in_ok-last.last start c.args.end c.requires.inside c.in-Some.is
     (subst (InOption (length ns)) c.in-Some.is c.requires.inside.here.last)
-    (ap (λ z. with_node ns (shapes.Repeat id c.args.counts) (record { start = z; end = c.args.end })) (sym from) ∙ c.in_ok-last.ensures.nodes)
+    (ap (λ z. with_node ns (shapes.Repeat id c.args.counts) (record { start = z; end = c.args.end })) (sym from)
+    ∙ c.in_ok-last.ensures.nodes)
     refl refl r t
 
 pub returns-clause-step : goal.returns-clause-step
 returns-clause-step c =
     let b = c.in_ok-last.ensures in
-    repeats_node (bounds_of c.args.counts) c.args.self.now _ c.in-Some.id c.in_ok-last.last c.in-Some.is (ap (λ z. can_repeat (tree_at (trees_of z) c.in-Some.id)) (sym c.deref.ensures.value) ∙ sym c.if-not-can_repeat.ensures) b.adds refl b.tree refl c.requires.inside b.id
+    repeats_node (bounds_of c.args.counts) c.args.self.now _ c.in-Some.id c.in_ok-last.last c.in-Some.is
+    (ap (λ z. can_repeat (tree_at (trees_of z) c.in-Some.id)) (sym c.deref.ensures.value)
+    ∙ sym c.if-not-can_repeat.ensures) b.adds refl b.tree refl c.requires.inside b.id
     (omega (arith, b.len)) (omega (arith, b.len))

@@ -131,7 +131,8 @@ up_to ds len n last h lt some zeros = record {
     a = prefix 10000 ds (suc last)
 
     all : joined 10000 ds ≡ a * 10000 ^ (10 - last)
-    all = prefix_joined 10000 (suc last) (10 - last) ds (let c = h.count in omega arith) ∙ ap (λ (x : ℕ). a * 10000 ^ (10 - last) + x) (none_counts 10000 (omega arith) (drop (suc last) ds) zeros) ∙ none (a * 10000 ^ (10 - last))
+    all = prefix_joined 10000 (suc last) (10 - last) ds (let c = h.count in omega arith)
+        ∙ ap (λ (x : ℕ). a * 10000 ^ (10 - last) + x) (none_counts 10000 (omega arith) (drop (suc last) ds) zeros) ∙ none (a * 10000 ^ (10 - last))
       where
         none : (x : ℕ) → x + 0 ≡ x
         none x = omega arith

@@ -52,7 +52,8 @@ unfolding with_fraction
 fraction_step m w None p h = absurd cc
 fraction_step m w (Some r) p h = record { value = r; is = refl; goes = h }
 
-exponent_step : (m : Bool) (w ds : List ℕ) (o : Option (Bool × ℕ)) (p : Parts) → with_exponent m w ds o ≡ Some p → Step o (λ e. Some (record { negative = m; whole = w; fraction = ds; exponent = e })) p
+exponent_step : (m : Bool) (w ds : List ℕ) (o : Option (Bool × ℕ)) (p : Parts) → with_exponent m w ds o ≡ Some p
+    → Step o (λ e. Some (record { negative = m; whole = w; fraction = ds; exponent = e })) p
 unfolding with_exponent
 exponent_step m w ds None p h = absurd cc
 exponent_step m w ds (Some r) p h = record { value = r; is = refl; goes = h }

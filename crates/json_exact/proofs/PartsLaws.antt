@@ -83,7 +83,8 @@ made a d last digits zeros scale h e lt some none group full round end =
     let t = a.top - 1 - last in
     let i : a.top - suc last ≡ t = omega arith in
     let moved : q * 10 ≡ m * 10 ^ zeros * 10000 ^ t =
-    u.exact ∙ ap (λ (k : ℕ). prefix 10000 a.groups (suc last) * 10000 ^ k) i ∙ ap (λ (x : ℕ). x * 10000 ^ t) (sym (mantissa_is (prefix 10000 a.groups last) (get_or a.groups last 0) digits zeros scale group full)) in
+    u.exact ∙ ap (λ (k : ℕ). prefix 10000 a.groups (suc last) * 10000 ^ k) i
+        ∙ ap (λ (x : ℕ). x * 10000 ^ t) (sym (mantissa_is (prefix 10000 a.groups last) (get_or a.groups last 0) digits zeros scale group full)) in
     let ends = mantissa_last (prefix 10000 a.groups last) digits scale round end in
     let narrow : HasNarrowDigits (m * 10 ^ (zeros + 4 * t)) = subst HasNarrowDigits (moved ∙ ap (λ (x : ℕ). m * 10 ^ zeros * x) (fours t) ∙ factor_last m (10 ^ zeros) (10 ^ (4 * t)) ∙ ap (λ (x : ℕ). m * x) (sym (pow-add 10 zeros (4 * t)))) (narrow_more q 1 s.narrow) in
     record {

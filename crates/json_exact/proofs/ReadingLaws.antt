@@ -44,7 +44,8 @@ minus_takes (c ∷ cs) = go (eqb c 45) refl
 -- each minus is read
 pub minus_again : (s : List ℕ) (m : Bool) (rest : List ℕ) → IsMinus s m → (get_or rest 0 0 ≡ 45 → ⊥) → minus_of (s ++ rest) ≡ (m, rest)
 unfolding minus_of
-minus_again s m rest (inl h) n = ap (λ (x : List ℕ). minus_of (x ++ rest)) h.0 ∙ ap (λ (t : Bool). if t then (true, drop 1 rest) else (false, rest)) (ne_eqb (get_or rest 0 0) 45 n) ∙ ap (λ (b : Bool). (b, rest)) (sym h.1)
+minus_again s m rest (inl h) n = ap (λ (x : List ℕ). minus_of (x ++ rest)) h.0
+    ∙ ap (λ (t : Bool). if t then (true, drop 1 rest) else (false, rest)) (ne_eqb (get_or rest 0 0) 45 n) ∙ ap (λ (b : Bool). (b, rest)) (sym h.1)
 minus_again s m rest (inr h) n = ap (λ (x : List ℕ). minus_of (x ++ rest)) h.0 ∙ ap (λ (b : Bool). (b, rest)) (sym h.1)
 
 nil_of : (cs : List ℕ) → length cs ≡ 0 → cs ≡ []

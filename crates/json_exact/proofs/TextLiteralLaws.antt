@@ -149,7 +149,8 @@ text_writes w =
       exponent = [];
       down = false;
       size = 0;
-      text_is = append_assoc (sign_text w.digits) (whole_text (n / 10 ^ p)) (fraction_text p n) ∙ ap (λ (xs : List ℕ). sign_text w.digits ++ (whole_text (n / 10 ^ p) ++ xs)) (sym (append-nil (fraction_text p n)));
+      text_is = append_assoc (sign_text w.digits) (whole_text (n / 10 ^ p)) (fraction_text p n)
+          ∙ ap (λ (xs : List ℕ). sign_text w.digits ++ (whole_text (n / 10 ^ p) ++ xs)) (sym (append-nil (fraction_text p n)));
       minus_is = minus_part w.digits;
       whole_is = whole_part (n / 10 ^ p);
       fraction_is = fraction_part p n;

@@ -60,7 +60,8 @@ count_twice x y xs e h =
     omega arith
 
 module _ {V : Type 0} where
-  neighbours_apart : (ms : List (Member V)) → ((q : List ℕ) → count_by (bytes_eq q) (map key_of ms) ≤ 1) → (k : ℕ) (d : Member V) → suc k < length ms → key_of (get_or ms k d) ≡ key_of (get_or ms (suc k) d) → ⊥
+  neighbours_apart : (ms : List (Member V)) → ((q : List ℕ) → count_by (bytes_eq q) (map key_of ms) ≤ 1) → (k : ℕ) (d : Member V) → suc k < length ms
+      → key_of (get_or ms k d) ≡ key_of (get_or ms (suc k) d) → ⊥
   neighbours_apart [] h k d lt e = omega arith
   neighbours_apart (m ∷ []) h k d lt e = omega arith
   neighbours_apart (m ∷ n ∷ ms) h zero d lt e = count_twice (key_of m) (key_of n) (map key_of ms) e (h (key_of m))

@@ -97,7 +97,8 @@ module _ {V : Type 0} where
       go false t = e
 
   -- the look-ups after a member goes in at its place
-  pub lookup_inserted : (ms : List (Member V)) (m : Member V) (i : ℕ) → GoesAt ms (key_of m) i → (k : List ℕ) → lookup k (map pair_of (insert ms i m)) ≡ (if bytes_eq k (key_of m) then Some m.value else lookup k (map pair_of ms))
+  pub lookup_inserted : (ms : List (Member V)) (m : Member V) (i : ℕ) → GoesAt ms (key_of m) i → (k : List ℕ)
+      → lookup k (map pair_of (insert ms i m)) ≡ (if bytes_eq k (key_of m) then Some m.value else lookup k (map pair_of ms))
   lookup_inserted [] m zero g k = refl
   lookup_inserted [] m (suc i) g k = let h = g.within in absurd (omega arith)
   lookup_inserted (x ∷ xs) m zero g k = refl
@@ -128,11 +129,13 @@ module _ {V : Type 0} where
       (rises_apart (n ∷ ms) (λ k d lt. s (suc k) d (omega arith)) (λ k d lt. f (suc k) d (omega arith)))
 
   -- sorted members of which no two neighbours have one key rise
-  pub rises_from_sorted : (ms : List (Member V)) → IsSortedByKey key_of key_cmp ms → ((k : ℕ) (d : Member V) → suc k < length ms → key_of (get_or ms k d) ≡ key_of (get_or ms (suc k) d) → ⊥) → rises (map key_of ms) ≡ true
+  pub rises_from_sorted : (ms : List (Member V)) → IsSortedByKey key_of key_cmp ms
+      → ((k : ℕ) (d : Member V) → suc k < length ms → key_of (get_or ms k d) ≡ key_of (get_or ms (suc k) d) → ⊥) → rises (map key_of ms) ≡ true
   rises_from_sorted ms s f = rises_apart ms (λ k d lt. rw add-one at (s k d (omega arith) (omega arith))) f
 
   -- what a search by halves finds in members whose keys rise
-  pub place_searched : (ms : List (Member V)) (key : List ℕ) (r : Result ℕ ℕ) → rises (map key_of ms) ≡ true → IsSearchInRange r (length ms) → IsBinarySearchResult (λ m. key_cmp (key_of m) key) ms r → IsPlaceOf ms key r
+  pub place_searched : (ms : List (Member V)) (key : List ℕ) (r : Result ℕ ℕ) → rises (map key_of ms) ≡ true → IsSearchInRange r (length ms)
+      → IsBinarySearchResult (λ m. key_cmp (key_of m) key) ms r → IsPlaceOf ms key r
   place_searched ms key (Ok i) e b s = record { within = b; at = λ d. one_key (key_of (get_or ms i d)) key (s d) }
   place_searched ms key (Err i) e b s =
       let p = s (searchable_from_sorted key_cmp_total key_of ms key (sorted_from_rises ms e)) in

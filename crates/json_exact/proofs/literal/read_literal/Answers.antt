@@ -20,7 +20,8 @@ Pushes before after o = (n : ℕ) → Holds before n → IfSome o (λ r. Holds a
 some_same : {A : Type 0} {x y : A} → Some x ≡ Some y → x ≡ y
 some_same e = cc
 
-exponent_kept : (negative : Bool) (whole fraction : List ℕ) (o : Option (Bool × ℕ)) (digits : SignificantDigits) (count : ℕ) (e : Exponent) → Holds digits (number (whole ++ fraction)) → count ≡ length fraction
+exponent_kept : (negative : Bool) (whole fraction : List ℕ) (o : Option (Bool × ℕ)) (digits : SignificantDigits) (count : ℕ) (e : Exponent)
+    → Holds digits (number (whole ++ fraction)) → count ≡ length fraction
     → ◌≡◌ {A = Option (Bool × ℕ)} (Some (e.down, e.size)) (option_map capped_exponent o)
     → Kept (with_exponent negative whole fraction o) (record { negative = negative; digits = digits; fraction_digits = count; exponent = e })
 unfolding with_exponent
@@ -55,7 +56,8 @@ whole_kept negative (Some (whole, after)) first before digits rest behind count 
     fraction_kept negative whole (fraction_of after) before digits count behind e (subst (λ (x : ℕ). Holds before x) none (pushes 0 h)) (subst (λ (xs : List ℕ). Pushes before digits (fraction_of xs)) same more)
     (f ∙ ap (λ (xs : List ℕ). option_map counted (fraction_of xs)) same) g
 
-literal_kept : (text : List ℕ) (negative : Bool) (start rest behind : List ℕ) (first before digits : SignificantDigits) (count : ℕ) (e : Exponent) → ◌≡◌ {A = Bool × List ℕ} (negative, start) (minus_of text) → Holds first 0 → Pushes first before (whole_of start)
+literal_kept : (text : List ℕ) (negative : Bool) (start rest behind : List ℕ) (first before digits : SignificantDigits) (count : ℕ) (e : Exponent)
+    → ◌≡◌ {A = Bool × List ℕ} (negative, start) (minus_of text) → Holds first 0 → Pushes first before (whole_of start)
     → Some rest ≡ option_map (λ r. r.1) (whole_of start) → Pushes before digits (fraction_of rest)
     → ◌≡◌ {A = Option (ℕ × List ℕ)} (Some (count, behind)) (option_map counted (fraction_of rest))
     → ◌≡◌ {A = Option (Bool × ℕ)} (Some (e.down, e.size)) (option_map capped_exponent (exponent_of behind))

@@ -84,7 +84,8 @@ module _ (b more : ℕ) (two : 1 < b) where
       let shifted : n * b ^ r ≡ joined b ds * b ^ place = eq_of_mul-eq-mul_right (b ^ suc i) (power_pos b (suc i) some) (n * b ^ r) (joined b ds * b ^ place)
       (factor_last n (b ^ r) (b ^ suc i) ∙ ap (λ (x : ℕ). n * x) (sym (pow-add b r (suc i)) ∙ ap (λ (k : ℕ). b ^ k) (let k : r + suc i ≡ suc more = omega arith in k)) ∙ h.size
       ∙ ap (λ (x : ℕ). joined b ds * x) (ap (λ (k : ℕ). b ^ k) t ∙ pow-add b place (suc i)) ∙ sym (factor_last (joined b ds) (b ^ place) (b ^ suc i))) in
-      ap (λ (x : ℕ). x % b) (quotient_is (joined b (take i ds) * b + d) (joined b (drop (suc i) ds)) (joined b ds) n (b ^ place) (b ^ r) (power_pos b place some) (power_pos b r some) whole below shifted)
+      ap (λ (x : ℕ). x % b)
+      (quotient_is (joined b (take i ds) * b + d) (joined b (drop (suc i) ds)) (joined b ds) n (b ^ place) (b ^ r) (power_pos b place some) (power_pos b r some) whole below shifted)
       ∙ mod-mul-add (joined b (take i ds)) b d (below_at b ds i some h.below)
     where
       grouped : (a d p u : ℕ) → a * (p * b) + (d * p + u) ≡ (a * b + d) * p + u

@@ -45,7 +45,7 @@ one_more n low place digit before after lt d e =
     let more : place - low ≡ suc k = omega arith in
     let at : low + k ≡ place - 1 = omega arith in
     let same : digit ≡ n / 10 ^ low / 10 ^ k % 10 = d ∙ ap (λ (j : ℕ). n / 10 ^ j % 10) (sym at) ∙ ap (λ (y : ℕ). n / y % 10) (pow-add 10 low k)
-        ∙ ap (λ (y : ℕ). y % 10) (sym (div-div-eq-div-mul n (10 ^ low) (10 ^ k))) in
+    ∙ ap (λ (y : ℕ). y % 10) (sym (div-div-eq-div-mul n (10 ^ low) (10 ^ k))) in
     ap (λ (xs : List ℕ). xs ++ digits_text k (n / 10 ^ low)) e
     ∙ append_assoc before ((48 + digit) ∷ []) (digits_text k (n / 10 ^ low))
     ∙ ap (λ (c : ℕ). before ++ ((48 + c) ∷ digits_text k (n / 10 ^ low))) same

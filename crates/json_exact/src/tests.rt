@@ -191,6 +191,10 @@ fn decimals_have_parts_and_groups(rt: HostRuntime) {
         assert!(rt; decimal.parts() == parts, "{text}");
         assert_eq!(rt; decimal.weight(), weight, "{text}");
         assert_eq!(rt; decimal.last_place(), last_place, "{text}");
-        assert_eq!(rt; (decimal.group(0), decimal.group(-2)), (ones, last), "{text}");
+        assert_eq!(rt;
+            (decimal.group(0), decimal.group(-2)),
+            (ones, last),
+            "{text}"
+        );
     }
 }

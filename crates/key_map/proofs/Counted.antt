@@ -71,7 +71,9 @@ module _ {V : Type 0} where
   -- members with distinct keys rise once they are sorted
   pub rises_moved : (ms ns : List (Member V)) → IsPermutation ms ns → AreDistinct (map key_of ms) → IsSortedByKey key_of key_cmp ns → rises (map key_of ns) ≡ true
   rises_moved ms ns p h s =
-      rises_from_sorted ns s (neighbours_apart ns (λ q. let t = sum_by-IsPermutation (λ x. cond (bytes_eq q x) 1 0) (map key_of ms) (map key_of ns) (IsPermutation-map key_of ms ns p) in let o = once_distinct (map key_of ms) h q in omega arith))
+      rises_from_sorted ns s
+      (neighbours_apart ns (λ q. let t = sum_by-IsPermutation (λ x. cond (bytes_eq q x) 1 0) (map key_of ms) (map key_of ns)
+      (IsPermutation-map key_of ms ns p) in let o = once_distinct (map key_of ms) h q in omega arith))
 
   -- and have the look-ups that they had
   pub lookups_moved : (ms ns : List (Member V)) → IsPermutation ms ns → rises (map key_of ns) ≡ true → (k : List ℕ) → lookup k (map pair_of ns) ≡ lookup k (map pair_of ms)

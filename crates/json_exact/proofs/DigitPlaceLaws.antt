@@ -84,14 +84,16 @@ module _ (b more : ℕ) (two : 1 < b) where
       let shifted : n * b ^ r ≡ joined b ds * b ^ place = eq_of_mul-eq-mul_right (b ^ suc i) (power_pos b (suc i) some) (n * b ^ r) (joined b ds * b ^ place)
       (factor_last n (b ^ r) (b ^ suc i) ∙ ap (λ (x : ℕ). n * x) (sym (pow-add b r (suc i)) ∙ ap (λ (k : ℕ). b ^ k) (let k : r + suc i ≡ suc more = omega arith in k)) ∙ h.size
       ∙ ap (λ (x : ℕ). joined b ds * x) (ap (λ (k : ℕ). b ^ k) t ∙ pow-add b place (suc i)) ∙ sym (factor_last (joined b ds) (b ^ place) (b ^ suc i))) in
-      ap (λ (x : ℕ). x % b) (quotient_is (joined b (take i ds) * b + d) (joined b (drop (suc i) ds)) (joined b ds) n (b ^ place) (b ^ r) (power_pos b place some) (power_pos b r some) whole below shifted)
+      ap (λ (x : ℕ). x % b)
+      (quotient_is (joined b (take i ds) * b + d) (joined b (drop (suc i) ds)) (joined b ds) n (b ^ place) (b ^ r) (power_pos b place some) (power_pos b r some) whole below shifted)
       ∙ mod-mul-add (joined b (take i ds)) b d (below_at b ds i some h.below)
     where
       grouped : (a d p u : ℕ) → a * (p * b) + (d * p + u) ≡ (a * b + d) * p + u
       grouped a d p u = omega arith
 
 -- from ten times the parts that the fields make to the decimal
-at_decimal : (a : Inside) (d : ℤ) (place group : ℕ) → IsFields a → parts_of a ≡ d → ((n : ℕ) → Keeps 10000 10 a.groups a.top n → n / 10000 ^ place % 10000 ≡ group) → group ≡ nat_abs d * 10 / 10000 ^ place % 10000
+at_decimal : (a : Inside) (d : ℤ) (place group : ℕ) → IsFields a → parts_of a ≡ d
+    → ((n : ℕ) → Keeps 10000 10 a.groups a.top n → n / 10000 ^ place % 10000 ≡ group) → group ≡ nat_abs d * 10 / 10000 ^ place % 10000
 at_decimal a d place group h e f =
     let (q, s) = sized a d h e in
     sym (f (q * 10) s.keeps) ∙ ap (λ (n : ℕ). n * 10 / 10000 ^ place % 10000) (sym s.abs)
@@ -101,7 +103,8 @@ pub group_above : (a : Inside) (d : ℤ) (place : ℕ) → IsFields a → parts_
 group_above a d place h e le = at_decimal a d place 0 h e (λ n s. high_digit 10000 10 (omega arith) n a.top place (below_len 10000 10 (omega arith) a.groups a.top n s) le)
 
 -- at a place among the groups that are kept
-pub group_within : (a : Inside) (d : ℤ) (place : ℕ) → IsFields a → parts_of a ≡ d → place < a.top → a.top - 1 - place < 11 → get_or a.groups (a.top - 1 - place) 0 ≡ nat_abs d * 10 / 10000 ^ place % 10000
+pub group_within : (a : Inside) (d : ℤ) (place : ℕ) → IsFields a → parts_of a ≡ d → place < a.top → a.top - 1 - place < 11
+    → get_or a.groups (a.top - 1 - place) 0 ≡ nat_abs d * 10 / 10000 ^ place % 10000
 group_within a d place h e lt small =
     at_decimal a d place (get_or a.groups (a.top - 1 - place) 0) h e (λ n s. kept_digit 10000 10 (omega arith) a.groups a.top n place (a.top - 1 - place) s small (omega arith))
 

@@ -37,7 +37,8 @@ tested a b x y r s u n p e = go r refl
     d = slice_eq-Decides Decides-eqb a.groups b.groups r e
 
     all : a.groups ≡ b.groups → a ≡ b
-    all f = ap (λ (n : Bool). record { negative = n; groups = a.groups; top = a.top }) n ∙ ap (λ (ds : List ℕ). record { negative = b.negative; groups = ds; top = a.top }) f ∙ ap (λ (t : ℕ). record { negative = b.negative; groups = b.groups; top = t }) p
+    all f = ap (λ (n : Bool). record { negative = n; groups = a.groups; top = a.top }) n
+        ∙ ap (λ (ds : List ℕ). record { negative = b.negative; groups = ds; top = a.top }) f ∙ ap (λ (t : ℕ). record { negative = b.negative; groups = b.groups; top = t }) p
 
     not_both : r ≡ true → r ≡ false → ⊥
     not_both u v = cc

@@ -55,7 +55,8 @@ module _ (b more : ℕ) (two : 1 < b) where
         count = h.count;
         below = h.below;
         size = eq_of_mul-eq-mul_right (b ^ down) (power_pos b down (omega arith)) (q * b ^ suc more) (joined b ds * b ^ (len + up - down))
-            (turn n q (joined b ds) (b ^ up) (b ^ down) (b ^ suc more) (b ^ len) e h.size ∙ ap (λ (x : ℕ). joined b ds * x) (sym (pow-add b len up) ∙ g) ∙ sym (factor_last (joined b ds) (b ^ (len + up - down)) (b ^ down)));
+            (turn n q (joined b ds) (b ^ up) (b ^ down) (b ^ suc more) (b ^ len) e h.size
+            ∙ ap (λ (x : ℕ). joined b ds * x) (sym (pow-add b len up) ∙ g) ∙ sym (factor_last (joined b ds) (b ^ (len + up - down)) (b ^ down)));
         lead = elim h.lead [ inl z ↦ absurd (let t = z.0 in omega arith) | inr z ↦ inr (omega arith, z.1) ];
       }
     where
@@ -90,7 +91,8 @@ none_group gs n h = subst (λ (x : ℕ). Keeps 10000 10 gs 0 x) (none_is 10000 1
 pub fields_none : (gs : List ℕ) (n : ℕ) → Keeps 10000 10 gs 0 n → IsFields (record { negative = false; groups = gs; top = 0 })
 fields_none gs n h = record { worth = (0, none_group gs n h, (0, 0, refl, omega arith)); sign = λ e. absurd cc; low = omega arith }
 
-pub parts_none : (m : Bool) (gs : List ℕ) (n up down q : ℕ) → Keeps 10000 10 gs 0 n → n * 10000 ^ up ≡ q * 10 * 10000 ^ down → parts_of (record { negative = false; groups = gs; top = 0 }) ≡ signed m q
+pub parts_none : (m : Bool) (gs : List ℕ) (n up down q : ℕ) → Keeps 10000 10 gs 0 n → n * 10000 ^ up ≡ q * 10 * 10000 ^ down
+    → parts_of (record { negative = false; groups = gs; top = 0 }) ≡ signed m q
 unfolding parts_of
 parts_none m gs n up down q h e =
     let n0 = none_is 10000 10 (omega arith) gs n h in

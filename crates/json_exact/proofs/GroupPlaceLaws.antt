@@ -55,7 +55,8 @@ group_under (pos p) n lt = absurd (omega (arith, ints))
 group_under (negsuc p) n lt =
     let i : suc p ≡ 4096 + suc (p - 4096) = omega (arith, ints) in
     let j = p - 4096 in
-    sym (ap (λ (x : ℕ). n * x / 10 ^ 16383 % 10000) (ap (λ (k : ℕ). 10000 ^ k) i ∙ pow-add 10000 4096 (suc j) ∙ ap (λ (x : ℕ). 10000 ^ 4096 * x) (pow-suc 10000 j) ∙ ap (λ (x : ℕ). x * (10000 ^ j * 10000)) whole_groups)
+    sym (ap (λ (x : ℕ). n * x / 10 ^ 16383 % 10000)
+    (ap (λ (k : ℕ). 10000 ^ k) i ∙ pow-add 10000 4096 (suc j) ∙ ap (λ (x : ℕ). 10000 ^ 4096 * x) (pow-suc 10000 j) ∙ ap (λ (x : ℕ). x * (10000 ^ j * 10000)) whole_groups)
     ∙ ap (λ (x : ℕ). x / 10 ^ 16383 % 10000) (turned n (10 ^ 16383) (10000 ^ j))
     ∙ ap (λ (x : ℕ). x % 10000) (mul-div_cancel (n * 10 * 10000 ^ j * 10000) (power_pos 10 16383 (omega arith)))
     ∙ mul-mod_left (n * 10 * 10000 ^ j) 10000)
@@ -109,7 +110,8 @@ prefix_joined b zero r ds e = none (b ^ r) (joined b ds)
     none u j = omega arith
 prefix_joined b (suc k) r ds e =
     let h = prefix_joined b k (suc r) ds (omega arith) in
-    let c : joined b (drop k ds) ≡ get_or ds k 0 * b ^ r + joined b (drop (suc k) ds) = ap (λ (xs : List ℕ). joined b xs) (drop_at ds k (omega arith)) ∙ ap (λ (j : ℕ). get_or ds k 0 * b ^ j + joined b (drop (suc k) ds)) (drop_length (suc k) r ds e) in
+    let c : joined b (drop k ds) ≡ get_or ds k 0 * b ^ r + joined b (drop (suc k) ds) = ap (λ (xs : List ℕ). joined b xs)
+    (drop_at ds k (omega arith)) ∙ ap (λ (j : ℕ). get_or ds k 0 * b ^ j + joined b (drop (suc k) ds)) (drop_length (suc k) r ds e) in
     h ∙ step (prefix b ds k) b (b ^ r) (b ^ suc r) (get_or ds k 0) (joined b (drop k ds)) (joined b (drop (suc k) ds)) (pow-suc b r) c
   where
     step : (x b u v g j t : ℕ) → v ≡ u * b → j ≡ g * u + t → x * v + j ≡ (x * b + g) * u + t
@@ -124,14 +126,17 @@ pub up_to : (ds : List ℕ) (len n last : ℕ) → Keeps 10000 10 ds len n → l
 up_to ds len n last h lt some zeros = record {
   within = within;
   exact = eq_of_mul-eq-mul_right (10000 ^ suc last) (power_pos 10000 (suc last) (omega arith)) n (a * 10000 ^ (len - suc last))
-      (moved ∙ ap (λ (x : ℕ). a * x) (ap (λ (k : ℕ). 10000 ^ k) (let i : len ≡ len - suc last + suc last = let w = within in omega arith in i) ∙ pow-add 10000 (len - suc last) (suc last)) ∙ sym (factor_last a (10000 ^ (len - suc last)) (10000 ^ suc last)));
+      (moved ∙ ap (λ (x : ℕ). a * x)
+      (ap (λ (k : ℕ). 10000 ^ k) (let i : len ≡ len - suc last + suc last = let w = within in omega arith in i)
+      ∙ pow-add 10000 (len - suc last) (suc last)) ∙ sym (factor_last a (10000 ^ (len - suc last)) (10000 ^ suc last)));
 }
   where
     a : ℕ
     a = prefix 10000 ds (suc last)
 
     all : joined 10000 ds ≡ a * 10000 ^ (10 - last)
-    all = prefix_joined 10000 (suc last) (10 - last) ds (let c = h.count in omega arith) ∙ ap (λ (x : ℕ). a * 10000 ^ (10 - last) + x) (none_counts 10000 (omega arith) (drop (suc last) ds) zeros) ∙ none (a * 10000 ^ (10 - last))
+    all = prefix_joined 10000 (suc last) (10 - last) ds (let c = h.count in omega arith)
+        ∙ ap (λ (x : ℕ). a * 10000 ^ (10 - last) + x) (none_counts 10000 (omega arith) (drop (suc last) ds) zeros) ∙ none (a * 10000 ^ (10 - last))
       where
         none : (x : ℕ) → x + 0 ≡ x
         none x = omega arith
@@ -151,7 +156,8 @@ up_to ds len n last h lt some zeros = record {
       | inl less ↦ absurd (
           let t = last - len in
           let f : a ≡ n * 10000 ^ suc t = eq_of_mul-eq-mul_right (10000 ^ len) (power_pos 10000 len (omega arith)) a (n * 10000 ^ suc t)
-          (sym moved ∙ ap (λ (x : ℕ). n * x) (ap (λ (k : ℕ). 10000 ^ k) (let i : suc last ≡ suc t + len = omega arith in i) ∙ pow-add 10000 (suc t) len) ∙ sym (factor_last n (10000 ^ suc t) (10000 ^ len))) in
+          (sym moved ∙ ap (λ (x : ℕ). n * x)
+          (ap (λ (k : ℕ). 10000 ^ k) (let i : suc last ≡ suc t + len = omega arith in i) ∙ pow-add 10000 (suc t) len) ∙ sym (factor_last n (10000 ^ suc t) (10000 ^ len))) in
           let g : a % 10000 ≡ 0 = ap (λ (x : ℕ). x % 10000) (f ∙ ap (λ (x : ℕ). n * x) (pow-suc 10000 t) ∙ sym (factor_last n (10000 ^ t) 10000)) ∙ mul-mod_left (n * 10000 ^ t) 10000 in
           let j : a % 10000 ≡ get_or ds last 0 = mod-mul-add (prefix 10000 ds last) 10000 (get_or ds last 0) (below_at 10000 ds last (omega arith) h.below) in
           omega arith)

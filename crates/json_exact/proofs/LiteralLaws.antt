@@ -27,9 +27,11 @@ again text w l =
       parts = record { negative = l.negative; whole = l.whole; fraction = l.digits; exponent = (l.down, l.size) };
       is =
           ap literal_of l.text_is
-          ∙ ap (λ (r : Bool × List ℕ). with_whole r.0 (whole_of r.1)) (minus_again l.minus l.negative (l.whole ++ (l.fraction ++ l.exponent)) l.minus_is (no_sign l.whole (l.fraction ++ l.exponent) l.whole_is))
+          ∙ ap (λ (r : Bool × List ℕ). with_whole r.0 (whole_of r.1))
+          (minus_again l.minus l.negative (l.whole ++ (l.fraction ++ l.exponent)) l.minus_is (no_sign l.whole (l.fraction ++ l.exponent) l.whole_is))
           ∙ ap (λ (o : Option (List ℕ × List ℕ)). with_whole l.negative o) (whole_again l.whole (l.fraction ++ l.exponent) l.whole_is f)
-          ∙ ap (λ (o : Option (List ℕ × List ℕ)). with_fraction l.negative l.whole o) (fraction_again l.fraction l.digits l.exponent l.fraction_is e (no_point_exponent l.exponent l.down l.size l.exponent_is))
+          ∙ ap (λ (o : Option (List ℕ × List ℕ)). with_fraction l.negative l.whole o)
+          (fraction_again l.fraction l.digits l.exponent l.fraction_is e (no_point_exponent l.exponent l.down l.size l.exponent_is))
           ∙ ap (λ (o : Option (Bool × ℕ)). with_exponent l.negative l.whole l.digits o) (exponent_again l.exponent l.down l.size l.exponent_is);
       writes = l.written_is;
     }
@@ -52,7 +54,8 @@ unfolding with_fraction
 fraction_step m w None p h = absurd cc
 fraction_step m w (Some r) p h = record { value = r; is = refl; goes = h }
 
-exponent_step : (m : Bool) (w ds : List ℕ) (o : Option (Bool × ℕ)) (p : Parts) → with_exponent m w ds o ≡ Some p → Step o (λ e. Some (record { negative = m; whole = w; fraction = ds; exponent = e })) p
+exponent_step : (m : Bool) (w ds : List ℕ) (o : Option (Bool × ℕ)) (p : Parts) → with_exponent m w ds o ≡ Some p
+    → Step o (λ e. Some (record { negative = m; whole = w; fraction = ds; exponent = e })) p
 unfolding with_exponent
 exponent_step m w ds None p h = absurd cc
 exponent_step m w ds (Some r) p h = record { value = r; is = refl; goes = h }

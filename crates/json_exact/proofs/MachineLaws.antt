@@ -1,15 +1,18 @@
 -- A machine's whole number is that many times the parts that make one.
-use Rattle.std.proofs.Common.{◌≡◌, ℕ, ◌*◌, ◌^◌, ◌<◌, Bool, true, false, List, refl, arith}
+use Rattle.std.proofs.Common.{◌≡◌, ℕ, ◌*◌, ◌^◌, ◌<◌, sym, ap, ◌∙◌, arith}
+use Rattle.json_model.specs.Decimal.{HasNarrowDigits}
 use Rattle.json_exact.specs.Exact.{parts}
-use Rattle.json_exact.specs.SignificantDigits.{Pushed}
-use Rattle.json_exact.proofs.GroupLaws.{not_narrow}
+use Rattle.json_exact.proofs.DigitLaws.{factor_last}
+use Rattle.json_exact.proofs.GroupLaws.{whole_groups}
 
--- 38 digits are enough for a number below 10 ^ 38
-pub few_kept : (ds : List ℕ) (len n : ℕ) (w : Bool) → n < 10 ^ 38 → Pushed 10 37 ds len w n → w ≡ false
-few_kept ds len n false lt h = refl
-few_kept ds len n true lt h = absurd (not_narrow ds len n true h refl (0, n, omega arith, omega arith))
+-- 38 digits are enough for a machine's number
+pub few_digits : (n : ℕ) → n < 2 ^ 64 → HasNarrowDigits n
+few_digits n lt = (0, n, omega arith, omega arith)
 
--- moved up by all fraction digits, n is n times the parts that make one
-pub all_up : (n : ℕ) → n * 10 ^ 16383 ≡ n * parts
+-- moved up by all groups behind the point and down by none, n is n times the parts that make one, and a 0
+pub all_up : (n : ℕ) → n * 10000 ^ 4096 ≡ n * parts * 10 * 10000 ^ 0
 unfolding parts
-all_up n = refl
+all_up n = ap (λ (x : ℕ). n * x) whole_groups ∙ sym (factor_last n (10 ^ 16383) 10) ∙ one (n * 10 ^ 16383 * 10)
+  where
+    one : (x : ℕ) → x ≡ x * 1
+    one x = omega arith

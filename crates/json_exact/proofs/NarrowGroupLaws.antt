@@ -30,7 +30,9 @@ ends (g ∷ gs) c h =
       before = joined 10000 (take 9 (g ∷ gs));
       first = ap (λ (k : ℕ). g * 10000 ^ k + joined 10000 gs) len;
       small = subst (λ (k : ℕ). joined 10000 gs < 10000 ^ k) len (joined_below 10000 gs h.1);
-      last = split 10000 (omega arith) 9 2 (g ∷ gs) c ∙ ap (λ (x : ℕ). joined 10000 (take 9 (g ∷ gs)) * 10000 ^ 2 + x) two ∙ (let e : joined 10000 (take 9 (g ∷ gs)) * 10000 ^ 2 + (get_or (g ∷ gs) 9 0 * 10000 + get_or (g ∷ gs) 10 0) ≡ joined 10000 (take 9 (g ∷ gs)) * 100000000 + get_or (g ∷ gs) 9 0 * 10000 + get_or (g ∷ gs) 10 0 = omega arith in e);
+      last = split 10000 (omega arith) 9 2 (g ∷ gs) c ∙ ap (λ (x : ℕ). joined 10000 (take 9 (g ∷ gs)) * 10000 ^ 2 + x) two
+          ∙ (let e : joined 10000 (take 9 (g ∷ gs)) * 10000 ^ 2 + (get_or (g ∷ gs) 9 0 * 10000 + get_or (g ∷ gs) 10 0) ≡ joined 10000
+          (take 9 (g ∷ gs)) * 100000000 + get_or (g ∷ gs) 9 0 * 10000 + get_or (g ∷ gs) 10 0 = omega arith in e);
       below_9 = below_at 10000 (g ∷ gs) 9 (omega arith) h;
       below_10 = below_at 10000 (g ∷ gs) 10 (omega arith) h;
     }

@@ -65,5 +65,8 @@ compared n m w v r h e g f same s = s ∙ go (int_eq n.decimal m.decimal) refl
     no false b e = refl
 
     go : (t : Bool) → int_eq n.decimal m.decimal ≡ t → int_eq n.decimal m.decimal ≡ (int_eq w.digits v.digits && eqb w.places v.places)
-    go true t = t ∙ sym (yes (int_eq w.digits v.digits) (eqb w.places v.places) ((Decides-int_eq w.digits v.digits).1 (worths ((Decides-int_eq n.decimal m.decimal).0 t))) (eq-eqb w.places v.places p))
-    go false t = t ∙ sym (no (int_eq w.digits v.digits) (eqb w.places v.places) (differ w.digits v.digits (λ d. both_ways (int_eq n.decimal m.decimal) t ((Decides-int_eq n.decimal m.decimal).1 (digits d)))))
+    go true t = t ∙ sym (yes (int_eq w.digits v.digits) (eqb w.places v.places)
+        ((Decides-int_eq w.digits v.digits).1 (worths ((Decides-int_eq n.decimal m.decimal).0 t))) (eq-eqb w.places v.places p))
+    go false t = t
+        ∙ sym (no (int_eq w.digits v.digits) (eqb w.places v.places)
+        (differ w.digits v.digits (λ d. both_ways (int_eq n.decimal m.decimal) t ((Decides-int_eq n.decimal m.decimal).1 (digits d)))))

@@ -55,7 +55,8 @@ scaled Greater j k q r p some e f h = let m : k * p < j * p = mul-lt-mul_of_pos_
 longer : (a b : Inside) (x y : ℤ) (q r : ℕ) → Sized a x q → Sized b y r → a.top < b.top → q < r
 longer a b x y q r s t lt =
     let below = below_len 10000 10 (omega arith) a.groups a.top (q * 10) s.keeps in
-    let least = from_len 10000 10 (omega arith) b.groups (b.top - 1) (r * 10) (subst (λ (k : ℕ). Keeps 10000 10 b.groups k (r * 10)) (let i : b.top ≡ suc (b.top - 1) = omega arith in i) t.keeps) in
+    let least = from_len 10000 10 (omega arith) b.groups (b.top - 1) (r * 10)
+    (subst (λ (k : ℕ). Keeps 10000 10 b.groups k (r * 10)) (let i : b.top ≡ suc (b.top - 1) = omega arith in i) t.keeps) in
     let more = power_mono 10000 a.top (b.top - 1) (omega arith) (omega arith) in
     omega arith
 
@@ -72,7 +73,8 @@ magnitudes_by_top a b x y h e g f ne =
     go Equal q r s t same = absurd (ne same)
 
 -- of as many groups, the first that differ decide
-pub magnitudes_by_groups : (a b : Inside) (x y : ℤ) → IsFields a → parts_of a ≡ x → IsFields b → parts_of b ≡ y → a.top ≡ b.top → slice_cmp nat_cmp a.groups b.groups ≡ nat_cmp (nat_abs x) (nat_abs y)
+pub magnitudes_by_groups : (a b : Inside) (x y : ℤ) → IsFields a → parts_of a ≡ x → IsFields b → parts_of b ≡ y → a.top ≡ b.top
+    → slice_cmp nat_cmp a.groups b.groups ≡ nat_cmp (nat_abs x) (nat_abs y)
 magnitudes_by_groups a b x y h e g f same =
     let (q, s) = sized a x h e in
     let (r, t) = sized b y g f in

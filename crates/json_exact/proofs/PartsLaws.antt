@@ -42,7 +42,9 @@ scaled_by q m z t e h at = λ up l f.
     let i : z + (4 * t + up) ≡ l + 16384 = omega (arith, ints) in
     eq_of_mul-eq-mul_right 10 (omega arith) (q * 10 ^ up) (m * 10 ^ 16383 * 10 ^ l)
     (turned q (10 ^ up) ∙ ap (λ (x : ℕ). x * 10 ^ up) (h ∙ ap (λ (x : ℕ). m * 10 ^ z * x) (fours t)) ∙ products m (10 ^ z) (10 ^ (4 * t)) (10 ^ up)
-    ∙ ap (λ (x : ℕ). m * x) (ap (λ (x : ℕ). 10 ^ z * x) (sym (pow-add 10 (4 * t) up)) ∙ sym (pow-add 10 z (4 * t + up)) ∙ ap (λ (k : ℕ). 10 ^ k) i ∙ pow-add 10 l 16384 ∙ ap (λ (x : ℕ). 10 ^ l * x) (pow-add 10 16383 1))
+    ∙ ap (λ (x : ℕ). m * x)
+    (ap (λ (x : ℕ). 10 ^ z * x) (sym (pow-add 10 (4 * t) up)) ∙ sym (pow-add 10 z (4 * t + up)) ∙ ap (λ (k : ℕ). 10 ^ k) i ∙ pow-add 10 l 16384
+    ∙ ap (λ (x : ℕ). 10 ^ l * x) (pow-add 10 16383 1))
     ∙ last m (10 ^ l) (10 ^ 16383))
   where
     turned : (x y : ℕ) → x * y * 10 ≡ x * 10 * y
@@ -83,9 +85,11 @@ made a d last digits zeros scale h e lt some none group full round end =
     let t = a.top - 1 - last in
     let i : a.top - suc last ≡ t = omega arith in
     let moved : q * 10 ≡ m * 10 ^ zeros * 10000 ^ t =
-    u.exact ∙ ap (λ (k : ℕ). prefix 10000 a.groups (suc last) * 10000 ^ k) i ∙ ap (λ (x : ℕ). x * 10000 ^ t) (sym (mantissa_is (prefix 10000 a.groups last) (get_or a.groups last 0) digits zeros scale group full)) in
+    u.exact ∙ ap (λ (k : ℕ). prefix 10000 a.groups (suc last) * 10000 ^ k) i
+    ∙ ap (λ (x : ℕ). x * 10000 ^ t) (sym (mantissa_is (prefix 10000 a.groups last) (get_or a.groups last 0) digits zeros scale group full)) in
     let ends = mantissa_last (prefix 10000 a.groups last) digits scale round end in
-    let narrow : HasNarrowDigits (m * 10 ^ (zeros + 4 * t)) = subst HasNarrowDigits (moved ∙ ap (λ (x : ℕ). m * 10 ^ zeros * x) (fours t) ∙ factor_last m (10 ^ zeros) (10 ^ (4 * t)) ∙ ap (λ (x : ℕ). m * x) (sym (pow-add 10 zeros (4 * t)))) (narrow_more q 1 s.narrow) in
+    let narrow : HasNarrowDigits (m * 10 ^ (zeros + 4 * t)) = subst HasNarrowDigits
+    (moved ∙ ap (λ (x : ℕ). m * 10 ^ zeros * x) (fours t) ∙ factor_last m (10 ^ zeros) (10 ^ (4 * t)) ∙ ap (λ (x : ℕ). m * x) (sym (pow-add 10 zeros (4 * t)))) (narrow_more q 1 s.narrow) in
     record {
       moved = ap (λ (x : ℕ). x * 10) s.abs ∙ moved;
       small = small_mantissa m (narrow_back m (zeros + 4 * t) narrow) ends;

@@ -55,7 +55,9 @@ worth : (m : Bool) (n up f : ℕ) → f ≤ 16383 → IsWorth (signed m (n * 10 
 unfolding parts
 worth m n up f le =
     signed_times m (n * 10 ^ (up + (16383 - f))) (10 ^ f)
-    ∙ ap (λ (x : ℕ). signed m x) (products n (10 ^ (up + (16383 - f))) (10 ^ f) ∙ ap (λ (x : ℕ). n * x) (sym (pow-add 10 (up + (16383 - f)) f) ∙ ap (λ (k : ℕ). 10 ^ k) i ∙ pow-add 10 up 16383) ∙ sym (products n (10 ^ up) (10 ^ 16383)))
+    ∙ ap (λ (x : ℕ). signed m x)
+    (products n (10 ^ (up + (16383 - f))) (10 ^ f)
+    ∙ ap (λ (x : ℕ). n * x) (sym (pow-add 10 (up + (16383 - f)) f) ∙ ap (λ (k : ℕ). 10 ^ k) i ∙ pow-add 10 up 16383) ∙ sym (products n (10 ^ up) (10 ^ 16383)))
     ∙ sym (signed_times m (n * 10 ^ up) (10 ^ 16383))
   where
     products : (x y z : ℕ) → x * y * z ≡ x * (y * z)

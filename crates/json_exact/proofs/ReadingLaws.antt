@@ -44,7 +44,8 @@ minus_takes (c ∷ cs) = go (eqb c 45) refl
 -- each minus is read
 pub minus_again : (s : List ℕ) (m : Bool) (rest : List ℕ) → IsMinus s m → (get_or rest 0 0 ≡ 45 → ⊥) → minus_of (s ++ rest) ≡ (m, rest)
 unfolding minus_of
-minus_again s m rest (inl h) n = ap (λ (x : List ℕ). minus_of (x ++ rest)) h.0 ∙ ap (λ (t : Bool). if t then (true, drop 1 rest) else (false, rest)) (ne_eqb (get_or rest 0 0) 45 n) ∙ ap (λ (b : Bool). (b, rest)) (sym h.1)
+minus_again s m rest (inl h) n = ap (λ (x : List ℕ). minus_of (x ++ rest)) h.0
+    ∙ ap (λ (t : Bool). if t then (true, drop 1 rest) else (false, rest)) (ne_eqb (get_or rest 0 0) 45 n) ∙ ap (λ (b : Bool). (b, rest)) (sym h.1)
 minus_again s m rest (inr h) n = ap (λ (x : List ℕ). minus_of (x ++ rest)) h.0 ∙ ap (λ (b : Bool). (b, rest)) (sym h.1)
 
 nil_of : (cs : List ℕ) → length cs ≡ 0 → cs ≡ []
@@ -92,9 +93,11 @@ whole_takes text r e = go (is_whole_part (take (digit_count text) text)) refl e
     got : (List ℕ × List ℕ)
     got = (take (digit_count text) text, drop (digit_count text) text)
 
-    go : (t : Bool) → is_whole_part (take (digit_count text) text) ≡ t → (if t then Some (take (digit_count text) text, drop (digit_count text) text) else None) ≡ Some r → Cut text r × IsWholePart r.0
+    go : (t : Bool) → is_whole_part (take (digit_count text) text) ≡ t
+        → (if t then Some (take (digit_count text) text, drop (digit_count text) text) else None) ≡ Some r → Cut text r × IsWholePart r.0
     go true f g = let same : (take (digit_count text) text, drop (digit_count text) text) ≡ r = cc in
-        subst (λ (x : List ℕ × List ℕ). Cut text x × IsWholePart x.0) same (record { text_is = both (digit_count text) text; digits = front_digits text }, whole_part_takes (take (digit_count text) text) (front_digits text) f)
+        subst (λ (x : List ℕ × List ℕ). Cut text x × IsWholePart x.0) same
+        (record { text_is = both (digit_count text) text; digits = front_digits text }, whole_part_takes (take (digit_count text) text) (front_digits text) f)
     go false f g = absurd cc
 
 -- each whole part is read
@@ -122,7 +125,8 @@ some_takes text r e = go (eqb (digit_count text) 0) refl e
     go : (t : Bool) → eqb (digit_count text) 0 ≡ t → (if t then None else Some (take (digit_count text) text, drop (digit_count text) text)) ≡ Some r → Cut text r × (0 < length r.0)
     go true f g = absurd cc
     go false f g = let same : (take (digit_count text) text, drop (digit_count text) text) ≡ r = cc in
-        subst (λ (x : List ℕ × List ℕ). Cut text x × (0 < length x.0)) same (record { text_is = both (digit_count text) text; digits = front_digits text }, some_front text (eqb-false (digit_count text) 0 f))
+        subst (λ (x : List ℕ × List ℕ). Cut text x × (0 < length x.0)) same
+        (record { text_is = both (digit_count text) text; digits = front_digits text }, some_front text (eqb-false (digit_count text) 0 f))
 
 some_again : (ds rest : List ℕ) → AreDigits ds → 0 < length ds → NoDigit rest → some_digits_of (ds ++ rest) ≡ Some (ds, rest)
 unfolding some_digits_of
@@ -178,7 +182,8 @@ exponent_sign_takes text = go text (eqb (get_or text 0 0) 43) refl
 exponent_sign_again : (s : List ℕ) (m : Bool) (rest : List ℕ) → IsExponentSign s m → (get_or rest 0 0 ≡ 45 → ⊥) → (get_or rest 0 0 ≡ 43 → ⊥) → exponent_sign_of (s ++ rest) ≡ (m, rest)
 unfolding exponent_sign_of
 exponent_sign_again s m rest (inl h) n p = ap (λ (x : List ℕ). exponent_sign_of (x ++ rest)) h.0 ∙ ap (λ (b : Bool). (b, rest)) (sym h.1)
-exponent_sign_again s m rest (inr h) n p = ap (λ (t : Bool). if t then (false, drop 1 (s ++ rest)) else minus_of (s ++ rest)) (ne_eqb (get_or (s ++ rest) 0 0) 43 (no_plus h)) ∙ minus_again s m rest h n
+exponent_sign_again s m rest (inr h) n p = ap (λ (t : Bool). if t then (false, drop 1 (s ++ rest)) else minus_of (s ++ rest))
+    (ne_eqb (get_or (s ++ rest) 0 0) 43 (no_plus h)) ∙ minus_again s m rest h n
   where
     no_plus : IsMinus s m → get_or (s ++ rest) 0 0 ≡ 43 → ⊥
     no_plus (inl h) e = p (ap (λ (xs : List ℕ). get_or (xs ++ rest) 0 0) (sym h.0) ∙ e)
@@ -245,9 +250,12 @@ exponent_again text down size (inl h) = ap exponent_of h.0 ∙ ap (λ (b : Bool)
 exponent_again text down size (inr p) =
     let d = first_digit p.digits p.digits_are p.some in
     let rest = p.sign ++ p.digits in
-    let s : exponent_sign_of (p.sign ++ p.digits) ≡ (down, p.digits) = exponent_sign_again p.sign down p.digits p.sign_is (λ e. absurd (let x = d.0 in omega arith)) (λ e. absurd (let x = d.0 in omega arith)) in
+    let s : exponent_sign_of (p.sign ++ p.digits) ≡ (down, p.digits) = exponent_sign_again p.sign down p.digits p.sign_is
+    (λ e. absurd (let x = d.0 in omega arith)) (λ e. absurd (let x = d.0 in omega arith)) in
     ap exponent_of p.text_is
-    ∙ ap (λ (b : Bool). if b then Some (false, 0) else (if eqb p.letter 101 || eqb p.letter 69 then exponent_with (exponent_sign_of rest).0 (size_of (exponent_sign_of rest).1) else None)) (ne_eqb (length (p.letter ∷ rest)) 0 (λ z. absurd (omega arith)))
+    ∙ ap (λ (b : Bool). if b then Some (false, 0) else
+    (if eqb p.letter 101 || eqb p.letter 69 then exponent_with (exponent_sign_of rest).0 (size_of (exponent_sign_of rest).1) else None))
+    (ne_eqb (length (p.letter ∷ rest)) 0 (λ z. absurd (omega arith)))
     ∙ ap (λ (b : Bool). if b then exponent_with (exponent_sign_of rest).0 (size_of (exponent_sign_of rest).1) else None) (letter p.letter p.letter_is)
     ∙ ap (λ (r : Bool × List ℕ). exponent_with r.0 (size_of r.1)) s
     ∙ ap (λ (o : Option ℕ). exponent_with down o) (size_again p.digits p.digits_are p.some)

@@ -84,7 +84,9 @@ pub regrouped_is : (ds : List ℕ) (len n up p t : ℕ) → Keeps 10 37 ds len n
     → joined 10 ds * 10 ^ (6 - p) * 10000 ^ t ≡ n * 10 ^ up * 10 * 10000 ^ 11
 regrouped_is ds len n up p t h lt e =
     factor_last (joined 10 ds) (10 ^ (6 - p)) (10000 ^ t)
-    ∙ ap (λ (x : ℕ). joined 10 ds * x) (ap (λ (x : ℕ). 10 ^ (6 - p) * x) (fours t) ∙ sym (pow-add 10 (6 - p) (4 * t)) ∙ ap (λ (k : ℕ). 10 ^ k) (let i : 6 - p + 4 * t ≡ len + (up + 7) = omega arith in i) ∙ pow-add 10 len (up + 7))
+    ∙ ap (λ (x : ℕ). joined 10 ds * x)
+    (ap (λ (x : ℕ). 10 ^ (6 - p) * x) (fours t) ∙ sym (pow-add 10 (6 - p) (4 * t))
+    ∙ ap (λ (k : ℕ). 10 ^ k) (let i : 6 - p + 4 * t ≡ len + (up + 7) = omega arith in i) ∙ pow-add 10 len (up + 7))
     ∙ sym (factor_last (joined 10 ds) (10 ^ len) (10 ^ (up + 7)))
     ∙ ap (λ (x : ℕ). x * 10 ^ (up + 7)) (sym h.size)
     ∙ ap (λ (x : ℕ). n * 10 ^ 38 * x) (pow-add 10 up 7)

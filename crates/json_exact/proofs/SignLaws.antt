@@ -53,7 +53,8 @@ cancel d e p some h = same (nat_abs d) abs refl
     nothing false false = refl
 
     same : (n : ℕ) → nat_abs d ≡ nat_abs e → nat_abs d ≡ n → d ≡ e
-    same zero a z = sign_abs d ∙ ap (λ (x : ℕ). signed (int_lt d (pos 0)) x) z ∙ nothing (int_lt d (pos 0)) (int_lt e (pos 0)) ∙ ap (λ (x : ℕ). signed (int_lt e (pos 0)) x) (sym z ∙ a) ∙ sym (sign_abs e)
+    same zero a z = sign_abs d ∙ ap (λ (x : ℕ). signed (int_lt d (pos 0)) x) z ∙ nothing (int_lt d (pos 0)) (int_lt e (pos 0))
+        ∙ ap (λ (x : ℕ). signed (int_lt e (pos 0)) x) (sym z ∙ a) ∙ sym (sign_abs e)
     same (suc n) a z =
         let u : 0 < nat_abs d * p = subst (λ (x : ℕ). 0 < x * p) (sym z) (positive n p some) in
         let v : 0 < nat_abs e * p = subst (λ (x : ℕ). 0 < x * p) a u in

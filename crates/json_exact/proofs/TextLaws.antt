@@ -44,7 +44,8 @@ one_more n low place digit before after lt d e =
     let k = place - 1 - low in
     let more : place - low ≡ suc k = omega arith in
     let at : low + k ≡ place - 1 = omega arith in
-    let same : digit ≡ n / 10 ^ low / 10 ^ k % 10 = d ∙ ap (λ (j : ℕ). n / 10 ^ j % 10) (sym at) ∙ ap (λ (y : ℕ). n / y % 10) (pow-add 10 low k) ∙ ap (λ (y : ℕ). y % 10) (sym (div-div-eq-div-mul n (10 ^ low) (10 ^ k))) in
+    let same : digit ≡ n / 10 ^ low / 10 ^ k % 10 = d ∙ ap (λ (j : ℕ). n / 10 ^ j % 10) (sym at) ∙ ap (λ (y : ℕ). n / y % 10) (pow-add 10 low k)
+    ∙ ap (λ (y : ℕ). y % 10) (sym (div-div-eq-div-mul n (10 ^ low) (10 ^ k))) in
     ap (λ (xs : List ℕ). xs ++ digits_text k (n / 10 ^ low)) e
     ∙ append_assoc before ((48 + digit) ∷ []) (digits_text k (n / 10 ^ low))
     ∙ ap (λ (c : ℕ). before ++ ((48 + c) ∷ digits_text k (n / 10 ^ low))) same
@@ -75,7 +76,8 @@ text_in_parts d w h le =
     ∙ ap (λ (y : ℕ). sign_text d ++ whole_text (nat_abs d / 10 ^ 16383) ++ fraction_text p y) last
 
 -- the parts of a text, written one after another
-pub written_in_turn : (sign whole fraction none after_sign after_whole after_fraction : List ℕ) → none ≡ [] → after_sign ≡ none ++ sign → after_whole ≡ after_sign ++ whole → after_fraction ≡ after_whole ++ fraction
+pub written_in_turn : (sign whole fraction none after_sign after_whole after_fraction : List ℕ) → none ≡ [] → after_sign ≡ none ++ sign
+    → after_whole ≡ after_sign ++ whole → after_fraction ≡ after_whole ++ fraction
     → after_fraction ≡ sign ++ whole ++ fraction
 written_in_turn sign whole fraction none after_sign after_whole after_fraction e f g h =
     h ∙ ap (λ (xs : List ℕ). xs ++ fraction) (g ∙ ap (λ (xs : List ℕ). xs ++ whole) (f ∙ ap (λ (xs : List ℕ). xs ++ sign) e))

@@ -90,8 +90,12 @@ whole_part zero = zero_part
 whole_part (suc m) =
     let h = counted (suc m) (omega arith) in
     let e : max 1 (count (suc m)) ≡ suc h.under = (let c = h.count_is in omega arith) in
-    subst IsWholePart (sym (ap (λ (k : ℕ). digits_text k (suc m)) e ∙ digits_more h.under (suc m)))
-    ((omega arith, (let r : suc m / 10 ^ h.under % 10 < 10 = omega arith in omega arith)), digits_are h.under (suc m), λ z. absurd (not_zero (suc m) (10 ^ h.under) (10 ^ suc h.under) h.low h.high (pow-suc 10 h.under) (ten_pos h.under) (let y : 48 + suc m / 10 ^ h.under % 10 ≡ 48 = z in omega arith)))
+    subst IsWholePart (sym (ap (λ (k : ℕ). digits_text k (suc m)) e ∙ digits_more h.under (suc m))) (
+      (omega arith, (let r : suc m / 10 ^ h.under % 10 < 10 = omega arith in omega arith)),
+      digits_are h.under (suc m),
+      λ z. absurd
+          (not_zero (suc m) (10 ^ h.under) (10 ^ suc h.under) h.low h.high (pow-suc 10 h.under) (ten_pos h.under) (let y : 48 + suc m / 10 ^ h.under % 10 ≡ 48 = z in omega arith)),
+    )
   where
     not_zero : (n p q : ℕ) → p ≤ n → n < q → q ≡ p * 10 → 0 < p → n / p % 10 ≡ 0 → ⊥
     not_zero n p q low high e some z =
@@ -111,7 +115,8 @@ minus_part d = go (int_lt d (pos 0))
 
 fraction_part : (places n : ℕ) → IsFraction (fraction_text places n) (digits_text places n)
 fraction_part zero n = inl (refl, refl)
-fraction_part (suc p) n = inr (ap (λ (t : Bool). if t then [] else 46 ∷ digits_text (suc p) n) (ne_eqb (suc p) 0 (λ e. absurd (omega arith))), digits_are (suc p) n, (let h = digits_length (suc p) n in omega arith))
+fraction_part (suc p) n = inr
+    (ap (λ (t : Bool). if t then [] else 46 ∷ digits_text (suc p) n) (ne_eqb (suc p) 0 (λ e. absurd (omega arith))), digits_are (suc p) n, (let h = digits_length (suc p) n in omega arith))
 
 -- the whole part and the fraction write the number together
 number_is : (n p : ℕ) → number (whole_text (n / 10 ^ p) ++ digits_text p n) ≡ n
@@ -149,7 +154,8 @@ text_writes w =
       exponent = [];
       down = false;
       size = 0;
-      text_is = append_assoc (sign_text w.digits) (whole_text (n / 10 ^ p)) (fraction_text p n) ∙ ap (λ (xs : List ℕ). sign_text w.digits ++ (whole_text (n / 10 ^ p) ++ xs)) (sym (append-nil (fraction_text p n)));
+      text_is = append_assoc (sign_text w.digits) (whole_text (n / 10 ^ p)) (fraction_text p n)
+          ∙ ap (λ (xs : List ℕ). sign_text w.digits ++ (whole_text (n / 10 ^ p) ++ xs)) (sym (append-nil (fraction_text p n)));
       minus_is = minus_part w.digits;
       whole_is = whole_part (n / 10 ^ p);
       fraction_is = fraction_part p n;

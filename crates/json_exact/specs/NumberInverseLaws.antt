@@ -34,4 +34,5 @@ divided_times d q p some e =
 
 pub number_fields-written_with : (n : Inside) → IsWrittenWith n → number_fields (written_with n) ≡ n
 unfolding number_fields written_with
-number_fields-written_with n h = ap (λ (d : ℤ). record { decimal = d; fraction_digits = n.fraction_digits }) (divided_times n.decimal h.exact.0 (10 ^ (16383 - n.fraction_digits)) (ten_pos (16383 - n.fraction_digits)) h.exact.1)
+number_fields-written_with n h = ap (λ (d : ℤ). record { decimal = d; fraction_digits = n.fraction_digits })
+    (divided_times n.decimal h.exact.0 (10 ^ (16383 - n.fraction_digits)) (ten_pos (16383 - n.fraction_digits)) h.exact.1)

@@ -183,7 +183,8 @@ impl Decimal {
         ensures value { result ≡ pos (value * parts) }
         ensures limits { IsWithinLimits result }
     {
-        Decimal::from_digits(false, SignificantDigits::of_number(value), FRACTION_DIGITS)
+        let groups = SignificantGroups::of_number(value);
+        Decimal::from_significant(false, groups, FRACTION_GROUPS as u64, 0)
     }
 
     /// The decimal of the same value. It needs no memory.
@@ -191,11 +192,8 @@ impl Decimal {
         ensures value { result ≡ value *ℤ pos parts }
         ensures limits { IsWithinLimits result }
     {
-        Decimal::from_digits(
-            value < 0,
-            SignificantDigits::of_number(value.unsigned_abs()),
-            FRACTION_DIGITS,
-        )
+        let groups = SignificantGroups::of_number(value.unsigned_abs());
+        Decimal::from_significant(value < 0, groups, FRACTION_GROUPS as u64, 0)
     }
 
     /// The order of the two magnitudes. A magnitude of more groups is larger, since its first group is not 0.

@@ -42,32 +42,4 @@ impl SignificantDigits {
         }
         self.len += 1;
     }
-
-    /// Pushes the four digits of a group.
-    pub fn push_group(&mut self, group: u16)
-        requires group { group < 10000 }
-        requires room { self.old.len + 4 < 2 ^ 64 }
-        ensures len { self.new.len ≤ self.old.len + 4 }
-        ensures holds { (n : ℕ) → Holds self.old n → Holds self.new (n * 10000 + group) }
-    {
-        self.push((group / 1000) as u8);
-        self.push((group / 100 % 10) as u8);
-        self.push((group / 10 % 10) as u8);
-        self.push((group % 10) as u8);
-    }
-
-    /// The digits of a whole number.
-    pub fn of_number(number: u64) -> SignificantDigits
-        ensures len { result.len ≤ 20 }
-        ensures kept { result.too_wide ≡ false }
-        ensures holds { Holds result number }
-    {
-        let mut digits = SignificantDigits::new();
-        digits.push_group((number / 10_000_000_000_000_000) as u16);
-        digits.push_group((number / 1_000_000_000_000 % 10_000) as u16);
-        digits.push_group((number / 100_000_000 % 10_000) as u16);
-        digits.push_group((number / 10_000 % 10_000) as u16);
-        digits.push_group((number % 10_000) as u16);
-        digits
-    }
 }

@@ -44,6 +44,20 @@ impl SignificantGroups {
         self.len += 1;
     }
 
+    /// The groups of a whole number.
+    pub fn of_number(number: u64) -> SignificantGroups
+        ensures len { result.len ≤ 5 }
+        ensures holds { HoldsGroups result number }
+    {
+        let mut groups = SignificantGroups::new();
+        groups.push((number / 10_000_000_000_000_000) as u16);
+        groups.push((number / 1_000_000_000_000 % 10_000) as u16);
+        groups.push((number / 100_000_000 % 10_000) as u16);
+        groups.push((number / 10_000 % 10_000) as u16);
+        groups.push((number % 10_000) as u16);
+        groups
+    }
+
     /// Whether at most 38 digits stand from the first that is not 0 to the last. Eleven groups have 44 digits, so this is
     /// where 6 or more zeros stand in front of the first group's digits and at the end: the first group and the last two tell.
     pub fn is_narrow(&self) -> bool

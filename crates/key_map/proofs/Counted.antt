@@ -60,7 +60,8 @@ count_twice x y xs e h =
     omega arith
 
 module _ {V : Type 0} where
-  neighbours_apart : (ms : List (Member V)) → ((q : List ℕ) → count_by (bytes_eq q) (map key_of ms) ≤ 1) → (k : ℕ) (d : Member V) → suc k < length ms → key_of (get_or ms k d) ≡ key_of (get_or ms (suc k) d) → ⊥
+  neighbours_apart : (ms : List (Member V)) → ((q : List ℕ) → count_by (bytes_eq q) (map key_of ms) ≤ 1) → (k : ℕ) (d : Member V) → suc k < length ms
+      → key_of (get_or ms k d) ≡ key_of (get_or ms (suc k) d) → ⊥
   neighbours_apart [] h k d lt e = omega arith
   neighbours_apart (m ∷ []) h k d lt e = omega arith
   neighbours_apart (m ∷ n ∷ ms) h zero d lt e = count_twice (key_of m) (key_of n) (map key_of ms) e (h (key_of m))
@@ -70,7 +71,9 @@ module _ {V : Type 0} where
   -- members with distinct keys rise once they are sorted
   pub rises_moved : (ms ns : List (Member V)) → IsPermutation ms ns → AreDistinct (map key_of ms) → IsSortedByKey key_of key_cmp ns → rises (map key_of ns) ≡ true
   rises_moved ms ns p h s =
-      rises_from_sorted ns s (neighbours_apart ns (λ q. let t = sum_by-IsPermutation (λ x. cond (bytes_eq q x) 1 0) (map key_of ms) (map key_of ns) (IsPermutation-map key_of ms ns p) in let o = once_distinct (map key_of ms) h q in omega arith))
+      rises_from_sorted ns s
+      (neighbours_apart ns (λ q. let t = sum_by-IsPermutation (λ x. cond (bytes_eq q x) 1 0) (map key_of ms) (map key_of ns)
+      (IsPermutation-map key_of ms ns p) in let o = once_distinct (map key_of ms) h q in omega arith))
 
   -- and have the look-ups that they had
   pub lookups_moved : (ms ns : List (Member V)) → IsPermutation ms ns → rises (map key_of ns) ≡ true → (k : List ℕ) → lookup k (map pair_of ns) ≡ lookup k (map pair_of ms)

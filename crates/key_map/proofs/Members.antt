@@ -83,9 +83,11 @@ module _ {V : Type 0} where
   rises_inserted [] m zero e g = refl
   rises_inserted [] m (suc i) e g = let h = g.within in absurd (omega arith)
   rises_inserted (x ∷ xs) m zero e g = rises_cons (key_of m) (key_of x) (map key_of xs) (g.above 0 m (omega arith) (omega arith)) e
-  rises_inserted (x ∷ xs) m (suc zero) e g = rises_cons (key_of x) (key_of m) (map key_of xs) (g.below 0 m (omega arith) (omega arith)) (rises_inserted xs m 0 (rises_tail (key_of x) (map key_of xs) e) (goes_tail x xs (key_of m) 0 g))
+  rises_inserted (x ∷ xs) m (suc zero) e g = rises_cons (key_of x) (key_of m) (map key_of xs) (g.below 0 m (omega arith) (omega arith))
+      (rises_inserted xs m 0 (rises_tail (key_of x) (map key_of xs) e) (goes_tail x xs (key_of m) 0 g))
   rises_inserted (x ∷ []) m (suc (suc i)) e g = let h = g.within in absurd (omega arith)
-  rises_inserted (x ∷ y ∷ ys) m (suc (suc i)) e g = rises_cons (key_of x) (key_of y) (map key_of (insert ys i m)) (rises_next (key_of x) (key_of y) (map key_of ys) e) (rises_inserted (y ∷ ys) m (suc i) (rises_tail (key_of x) (map key_of (y ∷ ys)) e) (goes_tail x (y ∷ ys) (key_of m) (suc i) g))
+  rises_inserted (x ∷ y ∷ ys) m (suc (suc i)) e g = rises_cons (key_of x) (key_of y) (map key_of (insert ys i m))
+      (rises_next (key_of x) (key_of y) (map key_of ys) e) (rises_inserted (y ∷ ys) m (suc i) (rises_tail (key_of x) (map key_of (y ∷ ys)) e) (goes_tail x (y ∷ ys) (key_of m) (suc i) g))
 
   -- of a first pair with another key, and of what is put behind it
   step_over : (k x key : List ℕ) (v : V) (w : V) (r s : Option V) → bytes_eq x key ≡ false → r ≡ (if bytes_eq k key then Some v else s)
@@ -97,11 +99,13 @@ module _ {V : Type 0} where
       go false t = e
 
   -- the look-ups after a member goes in at its place
-  pub lookup_inserted : (ms : List (Member V)) (m : Member V) (i : ℕ) → GoesAt ms (key_of m) i → (k : List ℕ) → lookup k (map pair_of (insert ms i m)) ≡ (if bytes_eq k (key_of m) then Some m.value else lookup k (map pair_of ms))
+  pub lookup_inserted : (ms : List (Member V)) (m : Member V) (i : ℕ) → GoesAt ms (key_of m) i → (k : List ℕ)
+      → lookup k (map pair_of (insert ms i m)) ≡ (if bytes_eq k (key_of m) then Some m.value else lookup k (map pair_of ms))
   lookup_inserted [] m zero g k = refl
   lookup_inserted [] m (suc i) g k = let h = g.within in absurd (omega arith)
   lookup_inserted (x ∷ xs) m zero g k = refl
-  lookup_inserted (x ∷ xs) m (suc i) g k = step_over k (key_of x) (key_of m) m.value x.value _ _ (before_differs (key_of x) (key_of m) (g.below 0 m (omega arith) (omega arith))) (lookup_inserted xs m i (goes_tail x xs (key_of m) i g) k)
+  lookup_inserted (x ∷ xs) m (suc i) g k = step_over k (key_of x)
+      (key_of m) m.value x.value _ _ (before_differs (key_of x) (key_of m) (g.below 0 m (omega arith) (omega arith))) (lookup_inserted xs m i (goes_tail x xs (key_of m) i g) k)
 
   first_over : (k x : List ℕ) (v w : V) (s : Option V) → (if bytes_eq k x then Some v else s) ≡ (if bytes_eq k x then Some v else (if bytes_eq k x then Some w else s))
   first_over k x v w s = go (bytes_eq k x)
@@ -118,7 +122,9 @@ module _ {V : Type 0} where
       → lookup k (map pair_of (slice_set ms i (with_value (get_or ms i d) v))) ≡ (if bytes_eq k (key_of (get_or ms i d)) then Some v else lookup k (map pair_of ms))
   lookup_replaced [] e i d lt v k = absurd (omega arith)
   lookup_replaced (m ∷ ms) e zero d lt v k = first_over k (key_of m) v m.value (lookup k (map pair_of ms))
-  lookup_replaced (m ∷ ms) e (suc i) d lt v k = step_over k (key_of m) (key_of (get_or ms i d)) v m.value _ _ (before_differs (key_of m) (key_of (get_or ms i d)) (key_after m ms e i d (omega arith))) (lookup_replaced ms (rises_tail (key_of m) (map key_of ms) e) i d (omega arith) v k)
+  lookup_replaced (m ∷ ms) e (suc i) d lt v k = step_over k (key_of m)
+      (key_of (get_or ms i d)) v m.value _ _ (before_differs (key_of m) (key_of (get_or ms i d)) (key_after m ms e i d (omega arith)))
+      (lookup_replaced ms (rises_tail (key_of m) (map key_of ms) e) i d (omega arith) v k)
 
   rises_apart : (ms : List (Member V)) → ((k : ℕ) (d : Member V) → suc k < length ms → is_lt (key_cmp (key_of (get_or ms (suc k) d)) (key_of (get_or ms k d))) ≡ false)
       → ((k : ℕ) (d : Member V) → suc k < length ms → key_of (get_or ms k d) ≡ key_of (get_or ms (suc k) d) → ⊥) → rises (map key_of ms) ≡ true
@@ -128,11 +134,13 @@ module _ {V : Type 0} where
       (rises_apart (n ∷ ms) (λ k d lt. s (suc k) d (omega arith)) (λ k d lt. f (suc k) d (omega arith)))
 
   -- sorted members of which no two neighbours have one key rise
-  pub rises_from_sorted : (ms : List (Member V)) → IsSortedByKey key_of key_cmp ms → ((k : ℕ) (d : Member V) → suc k < length ms → key_of (get_or ms k d) ≡ key_of (get_or ms (suc k) d) → ⊥) → rises (map key_of ms) ≡ true
+  pub rises_from_sorted : (ms : List (Member V)) → IsSortedByKey key_of key_cmp ms
+      → ((k : ℕ) (d : Member V) → suc k < length ms → key_of (get_or ms k d) ≡ key_of (get_or ms (suc k) d) → ⊥) → rises (map key_of ms) ≡ true
   rises_from_sorted ms s f = rises_apart ms (λ k d lt. rw add-one at (s k d (omega arith) (omega arith))) f
 
   -- what a search by halves finds in members whose keys rise
-  pub place_searched : (ms : List (Member V)) (key : List ℕ) (r : Result ℕ ℕ) → rises (map key_of ms) ≡ true → IsSearchInRange r (length ms) → IsBinarySearchResult (λ m. key_cmp (key_of m) key) ms r → IsPlaceOf ms key r
+  pub place_searched : (ms : List (Member V)) (key : List ℕ) (r : Result ℕ ℕ) → rises (map key_of ms) ≡ true → IsSearchInRange r (length ms)
+      → IsBinarySearchResult (λ m. key_cmp (key_of m) key) ms r → IsPlaceOf ms key r
   place_searched ms key (Ok i) e b s = record { within = b; at = λ d. one_key (key_of (get_or ms i d)) key (s d) }
   place_searched ms key (Err i) e b s =
       let p = s (searchable_from_sorted key_cmp_total key_of ms key (sorted_from_rises ms e)) in

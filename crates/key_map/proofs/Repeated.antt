@@ -16,7 +16,8 @@ is_early keys i key = list_any (λ k. bytes_eq k key) (take i keys)
 abbrev Early : List (List ℕ) → ℕ → List ℕ → Type 0
 Early keys i key = (e : ℕ) × (e < i) × (slice_get keys e ≡ Some key)
 
-early_first : (x : List ℕ) (xs : List (List ℕ)) (i : ℕ) (key : List ℕ) (b : Bool) → bytes_eq x key ≡ b → (b || is_early xs i key) ≡ true → (is_early xs i key ≡ true → Early xs i key) → Early (x ∷ xs) (suc i) key
+early_first : (x : List ℕ) (xs : List (List ℕ)) (i : ℕ) (key : List ℕ) (b : Bool) → bytes_eq x key ≡ b → (b || is_early xs i key) ≡ true
+    → (is_early xs i key ≡ true → Early xs i key) → Early (x ∷ xs) (suc i) key
 early_first x xs i key true e h f = (0, omega arith, ap (λ (z : List ℕ). Some z) ((bytes_eq-Decides x key).0 e))
 early_first x xs i key false e h f = let t = f h in let s : t.0 < i = t.1 in (suc t.0, omega arith, t.2)
 

@@ -9,7 +9,8 @@ invariant-loop-rest l = record {
   counted : digit_count l.bytes ≡ l.count + digit_count l.rest;
   few : l.count + length l.rest ≡ length l.bytes;
   room : l.digits.len ≤ l.initial.digits.len + l.count;
-  held : (n : ℕ) → Holds l.initial.digits n → (m : ℕ) × Holds l.digits m × (after 10 m (map (λ c. c - 48) (take (digit_count l.rest) l.rest)) ≡ after 10 n (map (λ c. c - 48) (take (digit_count l.bytes) l.bytes)));
+  held : (n : ℕ) → Holds l.initial.digits n
+      → (m : ℕ) × Holds l.digits m × (after 10 m (map (λ c. c - 48) (take (digit_count l.rest) l.rest)) ≡ after 10 n (map (λ c. c - 48) (take (digit_count l.bytes) l.bytes)));
 }
 
 abbrev pub decreases-loop-rest : goal.decreases-loop-rest

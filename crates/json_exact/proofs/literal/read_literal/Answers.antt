@@ -20,7 +20,8 @@ Pushes before after o = (n : ℕ) → Holds before n → IfSome o (λ r. Holds a
 some_same : {A : Type 0} {x y : A} → Some x ≡ Some y → x ≡ y
 some_same e = cc
 
-exponent_kept : (negative : Bool) (whole fraction : List ℕ) (o : Option (Bool × ℕ)) (digits : SignificantDigits) (count : ℕ) (e : Exponent) → Holds digits (number (whole ++ fraction)) → count ≡ length fraction
+exponent_kept : (negative : Bool) (whole fraction : List ℕ) (o : Option (Bool × ℕ)) (digits : SignificantDigits) (count : ℕ) (e : Exponent)
+    → Holds digits (number (whole ++ fraction)) → count ≡ length fraction
     → ◌≡◌ {A = Option (Bool × ℕ)} (Some (e.down, e.size)) (option_map capped_exponent o)
     → Kept (with_exponent negative whole fraction o) (record { negative = negative; digits = digits; fraction_digits = count; exponent = e })
 unfolding with_exponent
@@ -31,7 +32,8 @@ exponent_kept negative whole fraction (Some (down, size)) digits count e h f g =
   record { negative = refl; digits = h; fraction_digits = f; down = ap (λ (r : Bool × ℕ). r.0) (some_same g); size = ap (λ (r : Bool × ℕ). r.1) (some_same g) },
 )
 
-fraction_kept : (negative : Bool) (whole : List ℕ) (o : Option (List ℕ × List ℕ)) (before digits : SignificantDigits) (count : ℕ) (rest : List ℕ) (e : Exponent) → Holds before (number whole) → Pushes before digits o
+fraction_kept : (negative : Bool) (whole : List ℕ) (o : Option (List ℕ × List ℕ)) (before digits : SignificantDigits) (count : ℕ) (rest : List ℕ)
+    (e : Exponent) → Holds before (number whole) → Pushes before digits o
     → ◌≡◌ {A = Option (ℕ × List ℕ)} (Some (count, rest)) (option_map counted o)
     → ◌≡◌ {A = Option (Bool × ℕ)} (Some (e.down, e.size)) (option_map capped_exponent (exponent_of rest))
     → Kept (with_fraction negative whole o) (record { negative = negative; digits = digits; fraction_digits = count; exponent = e })
@@ -39,7 +41,8 @@ unfolding with_fraction
 fraction_kept negative whole None before digits count rest e h pushes f g = absurd cc
 fraction_kept negative whole (Some (fraction, behind)) before digits count rest e h pushes f g =
     let same : rest ≡ behind = ap (λ (r : ℕ × List ℕ). r.1) (some_same f) in
-    exponent_kept negative whole fraction (exponent_of behind) digits count e (subst (λ (x : ℕ). Holds digits x) (sym (number_append whole fraction)) (pushes (number whole) h)) (ap (λ (r : ℕ × List ℕ). r.0) (some_same f))
+    exponent_kept negative whole fraction (exponent_of behind) digits count e
+    (subst (λ (x : ℕ). Holds digits x) (sym (number_append whole fraction)) (pushes (number whole) h)) (ap (λ (r : ℕ × List ℕ). r.0) (some_same f))
     (g ∙ ap (λ (xs : List ℕ). option_map capped_exponent (exponent_of xs)) same)
 
 whole_kept : (negative : Bool) (o : Option (List ℕ × List ℕ)) (first before digits : SignificantDigits) (rest behind : List ℕ) (count : ℕ) (e : Exponent) → Holds first 0 → Pushes first before o
@@ -52,10 +55,12 @@ whole_kept negative None first before digits rest behind count e h pushes s more
 whole_kept negative (Some (whole, after)) first before digits rest behind count e h pushes s more f g =
     let same : rest ≡ after = cc in
     let none : 0 * 10 ^ length whole + number whole ≡ number whole = omega arith in
-    fraction_kept negative whole (fraction_of after) before digits count behind e (subst (λ (x : ℕ). Holds before x) none (pushes 0 h)) (subst (λ (xs : List ℕ). Pushes before digits (fraction_of xs)) same more)
+    fraction_kept negative whole (fraction_of after) before digits count behind e (subst (λ (x : ℕ). Holds before x) none (pushes 0 h))
+    (subst (λ (xs : List ℕ). Pushes before digits (fraction_of xs)) same more)
     (f ∙ ap (λ (xs : List ℕ). option_map counted (fraction_of xs)) same) g
 
-literal_kept : (text : List ℕ) (negative : Bool) (start rest behind : List ℕ) (first before digits : SignificantDigits) (count : ℕ) (e : Exponent) → ◌≡◌ {A = Bool × List ℕ} (negative, start) (minus_of text) → Holds first 0 → Pushes first before (whole_of start)
+literal_kept : (text : List ℕ) (negative : Bool) (start rest behind : List ℕ) (first before digits : SignificantDigits) (count : ℕ) (e : Exponent)
+    → ◌≡◌ {A = Bool × List ℕ} (negative, start) (minus_of text) → Holds first 0 → Pushes first before (whole_of start)
     → Some rest ≡ option_map (λ r. r.1) (whole_of start) → Pushes before digits (fraction_of rest)
     → ◌≡◌ {A = Option (ℕ × List ℕ)} (Some (count, behind)) (option_map counted (fraction_of rest))
     → ◌≡◌ {A = Option (Bool × ℕ)} (Some (e.down, e.size)) (option_map capped_exponent (exponent_of behind))

@@ -27,7 +27,9 @@ returns-then-digits-eq0-clause-value c = λ n size h e.
     let k0 : Keeps 10 37 c.args.literal.digits.digits 0 n = subst (λ (i : ℕ). Keeps 10 37 c.args.literal.digits.digits i n) c.if-digits-eq0.true k in
     let p = places_same _ _ size _ _ e c.requires.fraction_digits c.written_fraction_digits-fraction_digits.ensures c.if-fraction_digits-gt-MOST_FRACTION_DIGITS.false in
     let n0 : n ≡ 0 = let b = below_top c.args.literal.digits.digits 0 n k0 in omega arith in
-    read_none c.args.literal.negative c.args.literal.digits.digits n _ _ _ _ k0 (let g = c.if-fraction_digits-gt-MOST_FRACTION_DIGITS.false in omega arith) (c.from_digits.ensures.value n h ∙ ap (λ (x : ℕ). signed c.args.literal.negative x) (let z : n * 10 ^ 0 ≡ 0 = omega arith in z)) p
+    read_none c.args.literal.negative c.args.literal.digits.digits n _ _ _ _ k0
+    (let g = c.if-fraction_digits-gt-MOST_FRACTION_DIGITS.false in omega arith)
+    (c.from_digits.ensures.value n h ∙ ap (λ (x : ℕ). signed c.args.literal.negative x) (let z : n * 10 ^ 0 ≡ 0 = omega arith in z)) p
 
 pub returns-then-zeros-clause-value : goal.returns-then-zeros-clause-value
 returns-then-zeros-clause-value c = λ n size h e.
@@ -51,7 +53,8 @@ returns-clause-value c = λ n size h e.
     let p = places_same _ _ size _ _ e c.requires.fraction_digits c.written_fraction_digits-fraction_digits.ensures c.if-fraction_digits-gt-MOST_FRACTION_DIGITS.false in
     let r = raised_same _ _ size _ _ e c.requires.fraction_digits c.zeros_behind-zeros.ensures c.if-zeros.false in
     let k = keeps_of _ _ _ n h c.if-digits.false in
-    read_some c.args.literal.negative c.args.literal.digits.digits c.args.literal.digits.len n _ _ _ _ k (let g = c.if-fraction_digits-gt-MOST_FRACTION_DIGITS.false in omega arith) (let g = c.if-digits-zeros.false in omega arith)
+    read_some c.args.literal.negative c.args.literal.digits.digits c.args.literal.digits.len n _ _ _ _ k
+    (let g = c.if-fraction_digits-gt-MOST_FRACTION_DIGITS.false in omega arith) (let g = c.if-digits-zeros.false in omega arith)
     (c.from_digits-2.ensures.value n h
     ∙ ap (λ (x : ℕ). signed c.args.literal.negative (n * 10 ^ (x + (16383 - c.written_fraction_digits-fraction_digits.result)))) r
     ∙ ap (λ (x : ℕ). signed c.args.literal.negative (n * 10 ^ ((if c.args.literal.exponent.down then 0 else size - c.args.literal.fraction_digits) + (16383 - x)))) p)

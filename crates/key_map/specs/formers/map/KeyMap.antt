@@ -84,7 +84,8 @@ module _ (R S : RattleType) (h : R.Denot → S.Denot) where
       (laid _ _ _ (vec.the_places heap.the_row ghosts (M.the_row R) (M.the_row S) (member_over h) (member_places a)), tt))
 
   coded_over : Recodes R S h → (ps : List (List ℕ × R.Denot)) → (C.the_row S).coded.code (map (pair_over h) ps) ≡ (C.the_row R).coded.code ps
-  coded_over e ps = sym (code_map (coded× (coded_list coded_ℕ) R.coded).code (coded× (coded_list coded_ℕ) S.coded).code (pair_over h) (λ x i. gcons ((coded_list coded_ℕ).code x.0) (sym (e x.1) i)) ps)
+  coded_over e ps = sym
+      (code_map (coded× (coded_list coded_ℕ) R.coded).code (coded× (coded_list coded_ℕ) S.coded).code (pair_over h) (λ x i. gcons ((coded_list coded_ℕ).code x.0) (sym (e x.1) i)) ps)
 
   pub the_codes_placed : Recodes R S h → Recodes (C.the_row R) (C.the_row S) ((the_former this).map R.Denot S.Denot h)
   the_codes_placed e ps = coded_over e ps

@@ -12,4 +12,5 @@ pub digits_behind_first-requires-clause-some : goal.digits_behind_first-requires
 digits_behind_first-requires-clause-some c = first_group_some c.self.inside c.self.invariant c.if-self-eq0.false
 
 pub returns : goal.returns
-returns c = some_counted c.self.inside _ c.digits_behind_first.result c.self.invariant c.self.view_is (above_none _ c.if-self-eq0.false) c.digits_behind_first.ensures.low c.digits_behind_first.ensures.high
+returns c = some_counted c.self.inside _ c.digits_behind_first.result c.self.invariant c.self.view_is
+    (above_none _ c.if-self-eq0.false) c.digits_behind_first.ensures.low c.digits_behind_first.ensures.high

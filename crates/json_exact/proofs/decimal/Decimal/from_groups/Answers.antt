@@ -12,7 +12,8 @@ lifts l w h e = e ∙ ap lifted (to_z-of_z w16 w h)
 
 pub returns-then-not-is_narrow-clause-value : goal.returns-then-not-is_narrow-clause-value
 returns-then-not-is_narrow-clause-value c = λ q e narrow.
-    let a = (c.is_narrow.ensures _ c.groups_of-kept.ensures.holds).1 (wide_moved (joined 10000 (groups_of c.args.groups.now)) q _ _ (worth c.args.weight c.args.groups.now _ q c.requires.groups refl e) narrow) in
+    let a = (c.is_narrow.ensures _ c.groups_of-kept.ensures.holds).1
+    (wide_moved (joined 10000 (groups_of c.args.groups.now)) q _ _ (worth c.args.weight c.args.groups.now _ q c.requires.groups refl e) narrow) in
     let b = c.if-not-is_narrow.true in
     absurd cc
 

@@ -1,4 +1,4 @@
-use Rattle.std.proofs.Common.{ℕ, ℤ, ◌+◌, ◌*◌, ◌%◌, ◌^◌, ◌<◌, refl, sym, subst, nat_abs, w32, rules, arith}
+use Rattle.std.proofs.Common.{ℕ, ℤ, ◌+◌, ◌*◌, ◌%◌, ◌^◌, ◌<◌, sym, subst, nat_abs, w32, rules, arith}
 use mir.Val.{SFits}
 use Rattle.std.proofs.lemmas.Int.{to_z-of_z}
 use Rattle.json_exact.specs.DecimalGroups.{IsScaled}
@@ -61,7 +61,8 @@ returns-clause-magnitude c =
     let z = c.without_zeros-ending.ensures in
     let m = made c.self.inside _ c.last_index-last.result c.without_zeros-ending.result.digits _ _ c.self.invariant c.self.view_is l.within l.some l.last z.digits z.scale z.round z.last in
     let f : SFits w32 c.exponent_of.result = search rules in
-    subst (λ (w : ℤ). IsScaled (nat_abs c.args.self.now) (c.number_of-before.result * c.without_zeros-ending.result.scale + c.without_zeros-ending.result.digits) w) (sym (to_z-of_z w32 c.exponent_of.result f))
+    subst (λ (w : ℤ). IsScaled (nat_abs c.args.self.now)
+    (c.number_of-before.result * c.without_zeros-ending.result.scale + c.without_zeros-ending.result.digits) w) (sym (to_z-of_z w32 c.exponent_of.result f))
     (subst (λ (x : ℕ). IsScaled (nat_abs c.args.self.now) (x * c.without_zeros-ending.result.scale + c.without_zeros-ending.result.digits) c.exponent_of.result) (sym c.number_of-before.ensures)
     (scaled_by _ _ _ _ c.exponent_of.result m.moved c.exponent_of.ensures))
 

@@ -6,7 +6,11 @@ pub returns-then-not-is_integer : goal.returns-then-not-is_integer
 returns-then-not-is_integer c = λ n lt. (λ e. absurd cc, λ e. absurd (let t = c.is_integer.ensures.whole.1 (whole_multiple c.args.self.now n e) in let f = c.if-not-is_integer.true in cc))
 
 pub returns-then-high : goal.returns-then-high
-returns-then-high c = λ n lt. (λ e. absurd cc, λ e. absurd (wide (nat_abs c.args.self.now) n (let h = c.if-high.true in let m = c.max-high.ensures in let d = c.digit_count.ensures in omega arith) lt e))
+returns-then-high c = λ n lt. (
+  λ e. absurd cc,
+  λ e. absurd
+      (wide (nat_abs c.args.self.now) n (let h = c.if-high.true in let m = c.max-high.ensures in let d = c.digit_count.ensures in omega arith) lt e),
+)
 
 pub loop-place-init : goal.loop-place-init
 loop-place-init c = record {
@@ -16,13 +20,15 @@ loop-place-init c = record {
 
 pub overflow_mul-magnitude : goal.overflow_mul-magnitude
 overflow_mul-magnitude c =
-    let f = few_digits (nat_abs c.args.self.now) c.loop-place.place (let h = c.if-high.false in let m = c.max-high.ensures in let d = c.digit_count.ensures in omega arith) c.loop-place.invariant.within in
+    let f = few_digits (nat_abs c.args.self.now) c.loop-place.place
+    (let h = c.if-high.false in let m = c.max-high.ensures in let d = c.digit_count.ensures in omega arith) c.loop-place.invariant.within in
     let s = c.loop-place.invariant.so_far in
     omega arith
 
 pub overflow_add-magnitude : goal.overflow_add-magnitude
 overflow_add-magnitude c =
-    let f = few_digits (nat_abs c.args.self.now) c.loop-place.place (let h = c.if-high.false in let m = c.max-high.ensures in let d = c.digit_count.ensures in omega arith) c.loop-place.invariant.within in
+    let f = few_digits (nat_abs c.args.self.now) c.loop-place.place
+    (let h = c.if-high.false in let m = c.max-high.ensures in let d = c.digit_count.ensures in omega arith) c.loop-place.invariant.within in
     let s = c.loop-place.invariant.so_far in
     let d = c.digit_at.ensures in
     omega arith

@@ -12,14 +12,16 @@ returns-in-Err-clause-repeated g c = λ place e.
     subst (λ ms. IsFirstRepeat (map key_of ms) place) c.deref.ensures.value (c.in-Err.ensures.repeated place (ap (λ x. Err x) same))
 
 pub invariant_of-result : goal.invariant_of-result
-invariant_of-result g c = rises_moved c.args.members.items c.sort_by_key.new.members.items c.in-Ok.ensures.permutation (subst (λ ms. AreDistinct (map key_of ms)) c.deref.ensures.value (c.in_default.ensures.distinct refl)) c.in-Ok.ensures.sorted
+invariant_of-result g c = rises_moved c.args.members.items c.sort_by_key.new.members.items c.in-Ok.ensures.permutation
+    (subst (λ ms. AreDistinct (map key_of ms)) c.deref.ensures.value (c.in_default.ensures.distinct refl)) c.in-Ok.ensures.sorted
 
 pub returns-in-Ok-clause-members : goal.returns-in-Ok-clause-members
 returns-in-Ok-clause-members g c = IsPermutation-map pair_of c.args.members.items c.sort_by_key.new.members.items c.in-Ok.ensures.permutation
 
 pub returns-in-Ok-clause-same : goal.returns-in-Ok-clause-same
 returns-in-Ok-clause-same g c =
-    let rise = rises_moved c.args.members.items c.sort_by_key.new.members.items c.in-Ok.ensures.permutation (subst (λ ms. AreDistinct (map key_of ms)) c.deref.ensures.value (c.in_default.ensures.distinct refl)) c.in-Ok.ensures.sorted in
+    let rise = rises_moved c.args.members.items c.sort_by_key.new.members.items c.in-Ok.ensures.permutation
+    (subst (λ ms. AreDistinct (map key_of ms)) c.deref.ensures.value (c.in_default.ensures.distinct refl)) c.in-Ok.ensures.sorted in
     lookups_moved c.args.members.items c.sort_by_key.new.members.items c.in-Ok.ensures.permutation rise
 
 pub returns-in-Ok-clause-distinct : goal.returns-in-Ok-clause-distinct

@@ -2,3 +2,4 @@ pub mod PartTails
 pub mod TokenTails
 pub mod PartLaws
 pub mod SpanLaws
+pub mod Widened

@@ -1,16 +1,10 @@
 -- Parts one after another, with no bound.
-use Rattle.std.proofs.Common.{◌≡◌, ℕ, zero, suc, ◌+◌, ◌*◌, ◌<◌, ◌≤◌, Bool, true, false, List, [], ◌∷◌, ◌++◌, length, drop, Option, Some, None, option_map, option_and_then, refl, ap, sym, ◌∙◌, subst, arith, append_assoc, length-drop}
-use Rattle.std.specs.Prelude.{if◌then◌else◌, ◌==◌, nat_le, ◌&&◌}
-use Rattle.pattern_model.specs.Tree.{Item, Escape}
-use Rattle.pattern_model.specs.Text.{Text, is_at, with_front, many_in, many, Shrinks, past}
-use Rattle.pattern_model.specs.Digits.{hex_value, hex_step, hex_from, hex, hex_to_brace, digit_at}
-use Rattle.pattern_model.specs.CodePoints.{if_code_point, code_point, is_trail, if_trail, trail, is_lead, with_trail, paired, unicode_escape}
-use Rattle.pattern_model.specs.Letters.{is_ascii_letter, is_alphanumeric}
-use Rattle.pattern_model.specs.Escapes.{control, character_escape, class_escape}
-use Rattle.pattern_model.specs.Properties.{is_word, word_at, past_word, word, property_end, past_property}
-use Rattle.pattern_model.specs.GroupNames.{is_scalar, if_scalar, name_character, goes_on_name, if_part, name_part}
-use Rattle.pattern_model.specs.Classes.{Atom, code_atom, escape_or_code, escaped_atom, class_atom, makes_range, range_of, range_to, has_hyphens, part_from, class_part}
-use Rattle.pattern_model.proofs.PartTails.{Tails, After, short_holds, name_part_short, class_part_short}
+use Rattle.std.proofs.Common.{◌≡◌, ℕ, zero, suc, ◌<◌, Bool, true, false, List, [], ◌∷◌, ◌++◌, length, Option, Some, None, option_and_then, refl, ap, sym, ◌∙◌, arith, append_assoc}
+use Rattle.std.specs.Prelude.{if◌then◌else◌}
+use Rattle.pattern_model.specs.Text.{Text, with_front, many_in, many, Shrinks}
+use Rattle.pattern_model.specs.GroupNames.{name_part}
+use Rattle.pattern_model.specs.Classes.{class_part}
+use Rattle.pattern_model.proofs.PartTails.{After, short_holds, name_part_short, class_part_short}
 use Rattle.pattern_model.proofs.TokenTails.{shorter}
 
 after_shorter : (x : Text) → After (shorter (length x)) x

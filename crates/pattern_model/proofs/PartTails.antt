@@ -1,9 +1,9 @@
 -- What follows a part of a pattern is a tail of what it was read from: whatever holds of a text and passes on to its tails
 -- holds of what follows.
-use Rattle.std.proofs.Common.{◌≡◌, ℕ, zero, suc, ◌+◌, ◌*◌, ◌<◌, ◌≤◌, Bool, true, false, List, [], ◌∷◌, ◌++◌, length, drop, Option, Some, None, option_map, option_and_then, refl, ap, sym, ◌∙◌, subst, arith, append_assoc, length-drop}
+use Rattle.std.proofs.Common.{◌≡◌, ℕ, zero, suc, ◌+◌, ◌*◌, Bool, true, false, [], ◌∷◌, drop, Option, Some, None, option_map, option_and_then, refl, sym, subst}
 use Rattle.std.specs.Prelude.{if◌then◌else◌, ◌==◌, nat_le, ◌&&◌}
 use Rattle.pattern_model.specs.Tree.{Item, Escape}
-use Rattle.pattern_model.specs.Text.{Text, is_at, with_front, many_in, many, Shrinks, past}
+use Rattle.pattern_model.specs.Text.{Text, is_at, past}
 use Rattle.pattern_model.specs.Digits.{hex_value, hex_step, hex_from, hex, hex_to_brace, digit_at}
 use Rattle.pattern_model.specs.CodePoints.{if_code_point, code_point, is_trail, if_trail, trail, is_lead, with_trail, paired, unicode_escape}
 use Rattle.pattern_model.specs.Letters.{is_ascii_letter, is_alphanumeric}

@@ -1,8 +1,8 @@
 -- What follows a token is a tail of what follows the token's first character.
-use Rattle.std.proofs.Common.{◌≡◌, ℕ, zero, suc, ◌+◌, ◌*◌, ◌-◌, ◌<◌, ◌≤◌, Bool, true, false, List, [], ◌∷◌, ◌++◌, length, drop, Option, Some, None, option_map, option_and_then, refl, ap, arith, subst, sym, ◌∙◌, append_assoc}
+use Rattle.std.proofs.Common.{◌≡◌, ℕ, zero, suc, ◌+◌, ◌*◌, ◌-◌, ◌<◌, ◌≤◌, Bool, true, false, List, [], ◌∷◌, ◌++◌, length, drop, Option, Some, None, option_map, refl, ap, arith, subst, sym, ◌∙◌, append_assoc}
 use Rattle.std.specs.Prelude.{if◌then◌else◌, ◌==◌, nat_le, ◌&&◌, ◌||◌}
 use Rattle.pattern_model.specs.Tree.{Escape, Mark, Count, count_of, Token}
-use Rattle.pattern_model.specs.Text.{Text, is_at, with_front, many_in, many, Shrinks}
+use Rattle.pattern_model.specs.Text.{Text, is_at, with_front, many_in, many}
 use Rattle.pattern_model.specs.Digits.{is_digit, digit_at, digits_from, digits}
 use Rattle.pattern_model.specs.GroupNames.{name, name_start, name_parts, name_part, past_bracket, starts_name, if_part, name_character}
 use Rattle.pattern_model.specs.Classes.{class_part, class_items}
@@ -11,7 +11,7 @@ use Rattle.pattern_model.specs.Properties.{past_property}
 use Rattle.pattern_model.specs.Quantifiers.{quantifier, most_from, after_comma, least_from, braces}
 use Rattle.pattern_model.specs.Groups.{flags_from, flags, opens, bracketed, marked, opening}
 use Rattle.pattern_model.specs.Tokens.{class_token, class_from, leaf_of_name, back_name, leaf_of_code, escape_or_code, escaped, token_from, Reads}
-use Rattle.pattern_model.proofs.PartTails.{Tails, After, after_of, Short, short_if, short_bind, short_map, short_text, Less, less_if, short_holds, drop_less, property_less, character_short, name_character_short, name_part_short, class_part_short, nothing, left, no_text, text}
+use Rattle.pattern_model.proofs.PartTails.{Tails, after_of, Short, short_if, short_bind, short_map, short_text, Less, less_if, short_holds, drop_less, property_less, character_short, name_character_short, name_part_short, class_part_short, nothing, left, no_text, text}
 
 if_short : (n : Tails) (b : Bool) (p q : Token × Text) → n.holds p.1 → n.holds q.1 → n.holds (if b then p else q).1
 if_short n true p q h g = h

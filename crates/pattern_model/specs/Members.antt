@@ -1,6 +1,6 @@
 -- Which code points are members of a class or class escape (ECMA-262, section 22.2.2.9: CharacterClassEscape, ClassContents;
 -- sections 12.2 and 12.3: WhiteSpace, LineTerminator). Which have a property is not asked here.
-use Rattle.std.specs.Prelude.{ℕ, Bool, true, false, not, ◌&&◌, ◌||◌, ◌==◌, nat_le, List, [], ◌∷◌, if◌then◌else◌}
+use Rattle.std.specs.Prelude.{ℕ, Bool, true, false, not, ◌&&◌, ◌||◌, ◌==◌, nat_le, List}
 use Rattle.std.specs.List.{list_any, list_all}
 use Rattle.pattern_model.specs.Digits.{is_digit}
 use Rattle.pattern_model.specs.Properties.{is_word}

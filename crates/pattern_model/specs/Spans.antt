@@ -1,5 +1,5 @@
 -- Where tokens and class items stand in a text, in bytes of its UTF-8 (RFC 3629). This project's own.
-use Rattle.std.specs.Prelude.{◌≡◌, ℕ, ◌+◌, Bool, true, false, List, [], ◌∷◌, ◌++◌, length, Some, if◌then◌else◌}
+use Rattle.std.specs.Prelude.{◌≡◌, ℕ, Bool, ◌∷◌, ◌++◌, length, Some}
 use lib.Utf8.{encodes}
 use Rattle.pattern_model.specs.Text.{Text}
 use Rattle.pattern_model.specs.Tree.{Token}

@@ -1,5 +1,5 @@
 -- What the shape of a node tells of its tree.
-use Rattle.std.proofs.Common.{◌≡◌, ℕ, zero, suc, ◌+◌, ◌<◌, ◌≤◌, List, [], ◌∷◌, ◌++◌, length, get_or, sym, ap, ◌∙◌, subst, refl, arith, Bool, true, false, ◌&&◌, length-append}
+use Rattle.std.proofs.Common.{◌≡◌, ℕ, ◌<◌, List, length, get_or, sym, ap, ◌∙◌, subst, refl, arith, Bool, true, false, ◌&&◌}
 use Rattle.std.specs.Prelude.{nat_lt}
 use Rattle.std.proofs.lemmas.Bool.Decides.{nat_tests}
 use Rattle.pattern_tree.specs.declared.node.Node.{Node}
@@ -8,11 +8,10 @@ use Rattle.pattern_tree.specs.declared.node.Single.{Single}
 use Rattle.pattern_tree.specs.declared.node.Single.TheVariants as singles
 use Rattle.pattern_tree.specs.declared.node.Shape.TheVariants as shapes
 use Rattle.pattern_tree.specs.declared.form.NodeId.{NodeId}
-use Rattle.pattern_tree.specs.declared.form.Form.{Form}
 use Rattle.pattern_tree.specs.declared.pattern.Pattern.{Pattern}
 use Rattle.pattern_model.specs.Tree.{Tree}
-use Rattle.pattern_tree.specs.Nodes.{trees_of, tree_at, built, grown, Adds, mark_of, bounds_of}
-use Rattle.pattern_tree.specs.Below.{parts_below, all_below}
+use Rattle.pattern_tree.specs.Nodes.{trees_of, tree_at, built, Adds, mark_of, bounds_of}
+use Rattle.pattern_tree.specs.Below.{parts_below}
 use Rattle.pattern_tree.specs.Patterns.{HasNode, node_tree}
 use Rattle.pattern_tree.specs.Forms.{IsPart, IsForm, shape_form}
 use Rattle.pattern_tree.proofs.NodeLemmas.{shape_at, tree_at_adds}

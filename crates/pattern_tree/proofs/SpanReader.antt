@@ -1,5 +1,5 @@
 -- Each step of the reader keeps what is said of places.
-use Rattle.std.proofs.Common.{◌≡◌, ℕ, ◌+◌, ◌<◌, ◌≤◌, Bool, true, false, List, [], ◌∷◌, ◌++◌, length, Option, Some, None, Ok, Err, IfOk, IfSome, Global, ◌-◌, refl, ap, sym, ◌∙◌, subst, arith}
+use Rattle.std.proofs.Common.{◌≡◌, ℕ, ◌<◌, ◌≤◌, Bool, List, [], ◌∷◌, ◌++◌, length, Option, Some, None, Ok, Err, IfOk, IfSome, Global, ◌-◌, refl, ap, sym, ◌∙◌, subst, arith}
 use Rattle.std.specs.Prelude.{Result, Vec}
 use Rattle.std.specs.Str.{chars}
 use Rattle.std.proofs.lemmas.Str.{chars-encodes}
@@ -21,7 +21,7 @@ use Rattle.pattern_tree.specs.declared.span.Span.{Span}
 use Rattle.pattern_tree.specs.Nodes.{span_at, leaf_of, mark_of, bounds_of, InPart, InOuter, InReader}
 use Rattle.pattern_tree.specs.Parts.{with_node, with_disjunction, with_last}
 use Rattle.pattern_tree.specs.Patterns.{SpansStand}
-use Rattle.pattern_tree.specs.Spans.{NodeStands, NodesStand, TermsStand, AlternativesStand, PartStands, OuterStands, ReaderStands, StandsOn}
+use Rattle.pattern_tree.specs.Spans.{NodeStands, NodesStand, TermsStand, AlternativesStand, PartStands, OuterStands, ReaderStands}
 use Rattle.pattern_tree.proofs.NodeLemmas.{in_part_more, in_outer_more, in_outer_front}
 use Rattle.pattern_tree.proofs.SpanSteps.{Added, one_added, added_after, longer, disjunction_added, term_stands, part_old, outer_old, outer_push, outer_pop, stands_old, below_is, from_here, to_here}
 

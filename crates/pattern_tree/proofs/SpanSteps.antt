@@ -1,7 +1,7 @@
 -- The nodes stand where their places say, as nodes are added.
 use Rattle.std.proofs.Common.{◌≡◌, ℕ, zero, suc, ◌+◌, ◌<◌, ◌≤◌, Bool, true, false, ◌&&◌, List, [], ◌∷◌, ◌++◌, length, get_or, Option, Some, None, refl, ap, sym, ◌∙◌, subst, arith, length-append, append_assoc, ◌⊎◌, inl, inr}
 use Rattle.std.specs.Prelude.{nat_lt}
-use Rattle.std.proofs.lemmas.List.{append-nil, get_or_default}
+use Rattle.std.proofs.lemmas.List.{append-nil}
 use Rattle.std.proofs.Math.ListN.{get_or-append}
 use Rattle.std.proofs.Math.Seq.{get_or-append_seam}
 use Rattle.std.proofs.lemmas.Bool.Decides.{nat_tests}
@@ -18,7 +18,7 @@ use Rattle.pattern_tree.specs.declared.span.Span.{Span}
 use Rattle.pattern_tree.specs.Below.{parts_below, all_below}
 use Rattle.pattern_tree.specs.Nodes.{span_at, mark_of, InOption, InPart, InOuter}
 use Rattle.pattern_tree.specs.Parts.{with_node, between_nodes, with_term, with_alternative, with_either, with_disjunction, with_last}
-use Rattle.pattern_tree.specs.Spans.{NodeStands, FitsShape, AllFit, NodesStand, TermsStand, AlternativesStand, PartStands, OuterStands, ReaderStands, StandsOn}
+use Rattle.pattern_tree.specs.Spans.{NodeStands, FitsShape, NodesStand, TermsStand, AlternativesStand, PartStands, OuterStands, ReaderStands}
 
 abbrev no_node : Node
 no_node = record { shape = shapes.Empty; span = record { start = 0; end = 0 } }

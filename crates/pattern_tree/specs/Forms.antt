@@ -1,5 +1,5 @@
 -- What the accessors of a pattern tell of the tree at a node.
-use Rattle.std.specs.Prelude.{◌≡◌, ◌<◌, ℕ, List, [], Option, Some, None, option_map}
+use Rattle.std.specs.Prelude.{◌≡◌, ◌<◌, List, [], Option, Some, None, option_map}
 use Rattle.pattern_tree.specs.declared.form.GroupMark.{GroupMark}
 use Rattle.pattern_tree.specs.declared.form.GroupMark.TheVariants as kinds
 use Rattle.pattern_tree.specs.declared.form.Form.{Form}

@@ -1,6 +1,5 @@
 -- Where the nodes of a pattern stand in its source. This project's own.
 use Rattle.std.specs.Prelude.{◌≡◌, ℕ, ◌<◌, Bool, true, List, [], ◌∷◌, length, slice_index_or, Option, Some, None}
-use lib.Utf8.{encodes}
 use Rattle.pattern_model.specs.Text.{Text}
 use Rattle.pattern_model.specs.Tree.{Token}
 use Rattle.pattern_model.specs.Spans.{TokenStands}

@@ -1,10 +1,16 @@
-//! Laws of the grammar.
+//! Laws of the grammars.
 
-ghost use Rattle.std.specs.Prelude.{◌≡◌, ℕ, Bool, List};
+ghost use Rattle.std.specs.Prelude.{◌≡◌, Bool, true, false};
+ghost use Rattle.pattern_model.specs.Text.{Text};
 ghost use Rattle.pattern_model.specs.Tree.{Tree};
 ghost use Rattle.pattern_model.specs.Grammar.{Grammar};
 
 /// A text has at most one tree, by either grammar.
 pub fn one_tree()
-    ensures { (wide : Bool) (x : List ℕ) (t u : Tree) → Grammar wide x t → Grammar wide x u → t ≡ u }
+    ensures { (wide : Bool) (x : Text) (t u : Tree) → Grammar wide x t → Grammar wide x u → t ≡ u }
+{}
+
+/// A text with a tree by the ECMA grammar has that tree by the widened grammar too.
+pub fn widened_reads_ecma()
+    ensures { (x : Text) (t : Tree) → Grammar false x t → Grammar true x t }
 {}

@@ -24,6 +24,7 @@
 //! (`specs/Trees.antt`). [`laws`] says what holds of all of them.
 #![tactic(auto)]
 
+mod cloning;
 mod decimal;
 pub mod laws;
 mod literal;

@@ -8,3 +8,5 @@ pub mod Gives
 pub mod Kinds
 pub mod Allowed
 pub mod Identities
+pub mod Cows
+pub mod Instances

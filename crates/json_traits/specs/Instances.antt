@@ -1,6 +1,7 @@
 -- What an instance holds, and the tree that it stands for. This project's own.
-use Rattle.std.specs.Prelude.{◌≡◌, Option, Some, None, Result, IfOk, IsSome, OnErr}
+use Rattle.std.specs.Prelude.{◌≡◌, ◌<◌, Option, Some, None, Result, IfOk, IsSome, OnErr}
 use Rattle.std.specs.Borrow.{Bor}
+use Rattle.json_model.specs.Nest.{nest}
 use Rattle.json_model.specs.Tree.{Tree}
 use Rattle.json_traits.specs.Cows.{cow_tree}
 use Rattle.json_traits.specs.declared.lazy_instance.LazyInstance.{LazyInstance}
@@ -33,3 +34,7 @@ module _ {N : Type 0} where
   -- what was asked for is there afterwards; what was there, and an instance that gave none, is as before
   abbrev pub IsKept : LazyInstance N → LazyInstance N → Result (Bor ValueCow) ValueError → Type 0
   IsKept old new r = IfOk r (λ c. held new ≡ Some c.now) × OnErr r (new ≡ old) × (IsSome (held old) → new ≡ old)
+
+  -- no value is there, and the node nests more than 128 containers
+  abbrev pub IsTooDeep : (N → Tree) → LazyInstance N → Type 0
+  IsTooDeep tree i = (held i ≡ None) × (128 < nest (instance_tree tree i))

@@ -10,3 +10,4 @@ pub mod Allowed
 pub mod Identities
 pub mod Cows
 pub mod Instances
+pub mod Keeping

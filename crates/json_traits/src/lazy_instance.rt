@@ -1,9 +1,8 @@
 //! `LazyInstance`: a value that is made where it is asked for first.
 
-ghost use Rattle.std.specs.Prelude.{◌≡◌, ◌<◌, ◌↔◌, Some, None, Ok, Err, IfOk, IfSome, IsOk, IsSome, OnErr, OnOk};
-ghost use Rattle.json_model.specs.Nest.{nest};
+ghost use Rattle.std.specs.Prelude.{◌≡◌, ◌↔◌, Some, Ok, Err, IfOk, IfSome, IsOk, IsSome, OnErr, OnOk};
 ghost use Rattle.json_traits.specs.Cows.{cow_tree};
-ghost use Rattle.json_traits.specs.Instances.{held, instance_tree, waiting_node};
+ghost use Rattle.json_traits.specs.Instances.{held, instance_tree, waiting_node, IsTooDeep};
 ghost use Rattle.json_traits.specs.declared.value_error.ValueError.{ValueError};
 
 use crate::has_tree::HasTree;
@@ -44,20 +43,16 @@ impl<'a, N> From<&'a Value> for LazyInstance<'a, N> {
 }
 
 impl<'a, N: Node<'a>> LazyInstance<'a, N> {
-    ghost use Rattle.std.specs.Prelude.{[]};
     ghost use Rattle.std.specs.Borrow.{sem};
-    ghost use Rattle.std.specs.Io.BufRead.{Rests};
-    ghost use mir.Syntax.{named};
-    ghost use Rattle.json_traits.specs.Instances.{IsKept};
-    ghost use Rattle.json_traits.specs.contracts.lazy_instance.LazyInstance.{the_row};
+    ghost use Rattle.json_traits.specs.Keeping.{KeepsValue};
 
     /// The value, which is made by the first call of a deferred node and kept. A refusal leaves an empty cell empty. Only the first call
     /// of a deferred node may take memory.
     pub fn get(&mut self, alloc: Global) -> Result<&ValueCow<'a>, ValueError>
         ensures tree { IfOk result (λ c. cow_tree c.now ≡ instance_tree N.tree self.old) }
         ensures there { IsSome (held self.old) → IsOk result }
-        ensures* kept { sem 𝓛 (Rests (the_row (record { mir = named 0; lft = [] }) N.row) self.entry (λ new. IsKept self.old new result)) }
-        ensures too_deep { (result ≡ Err ValueError.TooDeep) ↔ ((held self.old ≡ None) × (128 < nest (instance_tree N.tree self.old))) }
+        ensures* kept { sem 𝓛 (KeepsValue N.row self.entry result) }
+        ensures too_deep { (result ≡ Err ValueError.TooDeep) ↔ IsTooDeep N.tree self.old }
     {
         self.fill(alloc)?;
         Ok(self.filled())
@@ -67,7 +62,7 @@ impl<'a, N: Node<'a>> LazyInstance<'a, N> {
     pub fn into_cow(self, alloc: Global) -> Result<ValueCow<'a>, ValueError>
         ensures tree { IfOk result (λ c. cow_tree c ≡ instance_tree N.tree self.entry) }
         ensures there { IfSome (held self.entry) (λ c. result ≡ Ok c) }
-        ensures too_deep { (result ≡ Err ValueError.TooDeep) ↔ ((held self.entry ≡ None) × (128 < nest (instance_tree N.tree self.entry))) }
+        ensures too_deep { (result ≡ Err ValueError.TooDeep) ↔ IsTooDeep N.tree self.entry }
     {
         match self {
             LazyInstance::Ready(cow) => Ok(cow),
@@ -83,7 +78,7 @@ impl<'a, N: Node<'a>> LazyInstance<'a, N> {
         ensures filled { OnOk result (IsSome (held self.new)) }
         ensures tree { instance_tree N.tree self.new ≡ instance_tree N.tree self.old }
         ensures there { IsSome (held self.old) → IsOk result × (self.new ≡ self.old) }
-        ensures too_deep { (result ≡ Err ValueError.TooDeep) ↔ ((held self.old ≡ None) × (128 < nest (instance_tree N.tree self.old))) }
+        ensures too_deep { (result ≡ Err ValueError.TooDeep) ↔ IsTooDeep N.tree self.old }
         ensures err { OnErr result (self.new ≡ self.old) }
     {
         let Some(node) = self.waiting() else {

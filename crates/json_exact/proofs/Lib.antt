@@ -26,3 +26,5 @@ pub mod LiteralLaws
 pub mod PlaceLaws
 pub mod ParseLaws
 pub mod TextLiteralLaws
+pub mod NestLaws
+pub mod InsertLaws

@@ -13,6 +13,7 @@
 //! Decimal::from_groups(false, 1, &[1, 0, 0x29, 0x09]);     // 12345, from the groups 1 and 2345 of PostgreSQL's `numeric`
 //! Decimal::parse("-12345.6")?.parts();                     // negative, mantissa 123456, exponent -1
 //! map.insert(key, Value::Number(number))?;                 // the old value under the key, if any
+//! value.clone_in(alloc)?;                                  // a value of the same tree, in memory of its own
 //! ```
 //!
 //! A `Decimal` is kept as PostgreSQL stores it in `jsonb`: in groups of four digits that begin at the point. The first group
@@ -29,13 +30,14 @@
 //! The notation is that of RFC 8259, section 6, and the values those of section 3. The limits are this project's own: a
 //! decimal has at most 38 digits from the first to the last that is not 0, its magnitude is below 10^131072, and 16,383
 //! fraction digits write it exactly. `from_groups` answers `None` where there are more digits, and `parse` a [`NumberError`].
-//! Only `Number::to_text`, `Map::insert` of a new key and `Map::from_members` may take memory.
+//! Only `Number::to_text`, `Value::clone_in`, `Map::insert` of a new key and `Map::from_members` may take memory.
 //!
 //! Contracts see a `Decimal` as a whole number of parts, of which 10^16383 make one (`specs/Exact.antt`), a `Number` as the
 //! record of its digits and its fraction digits that `json_model` calls `Decimal`, and a `Value` as its tree
 //! (`specs/Trees.antt`). [`laws`] says what holds of all of them.
 #![tactic(auto)]
 
+mod cloning;
 mod decimal;
 mod group;
 pub mod laws;

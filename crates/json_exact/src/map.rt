@@ -11,6 +11,7 @@ ghost use Rattle.json_exact.specs.Trees.{tree, pairs, member_pair};
 ghost use Rattle.json_exact.specs.MapIteration.{left};
 
 use crate::map_iter::MapIter;
+use crate::out_of_memory::OutOfMemory;
 use crate::value::Value;
 use key_map::{KeyMap, MapError};
 use std::alloc::Global;
@@ -33,6 +34,12 @@ pub struct InsertError {
     pub key: String,
     /// The value, as it was given.
     pub value: Value,
+}
+
+impl From<InsertError> for OutOfMemory {
+    fn from(_error: InsertError) -> OutOfMemory {
+        OutOfMemory
+    }
 }
 
 impl Map {

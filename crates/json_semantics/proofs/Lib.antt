@@ -1,5 +1,3 @@
-pub mod PlaceLaws
-pub mod NestLaws
 pub mod ValueLaws
 pub mod TextLaws
 pub mod EquivalenceLaws

@@ -13,13 +13,8 @@ use Rattle.json_exact.specs.Exact.{IsWorth, exactly, parts}
 use Rattle.json_exact.proofs.WorthLaws.{same_as_written}
 use Rattle.json_exact.proofs.WrittenOrderLaws.{below_as_written}
 use Rattle.json_semantics.specs.Bounds.{IsAtMost}
+use Rattle.json_traits.proofs.EqualityLaws.{same_value}
 use Rattle.json_traits.specs.Numbers.{decimal_in}
-
--- a test of two values tells whether what is written has one value
-pub same_value : (d e : ℤ) (w v : Written) (r : Bool) → r ≡ int_eq d e → IsWorth d w → IsWorth e v → IsTrue r ↔ IsSameValue w v
-same_value d e w v r is f g =
-    let s = same_as_written d e w v f g in
-    (λ h. s.0 ((Decides-int_eq d e).0 (sym is ∙ h)), λ h. is ∙ (Decides-int_eq d e).1 (s.1 h))
 
 -- o is the order of d and e
 abbrev Ranked : Ordering → ℤ → ℤ → Type 0

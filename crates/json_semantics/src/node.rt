@@ -38,9 +38,11 @@ impl HasTree for ValueNode<'_> {
 }
 
 impl<'a> Node<'a> for ValueNode<'a> {
-    ghost use Rattle.std.specs.Prelude.{None};
+    ghost use Rattle.std.specs.Prelude.{None, Some};
 
     ghost identity_of = { λ _. None };
+
+    ghost value_of = { λ n. Some n.value.now };
 
     type Object = ValueObject<'a>;
 
@@ -115,5 +117,10 @@ impl<'a> Node<'a> for ValueNode<'a> {
     #[tactic(auto, using(crate::proofs::IdentityLaws::no_identity))]
     fn container_identity(&self) -> Option<NodeIdentity> {
         None
+    }
+
+    /// The value itself.
+    fn as_value(&self) -> Option<&'a Value> {
+        Some(self.value)
     }
 }

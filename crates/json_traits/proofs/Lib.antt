@@ -7,3 +7,7 @@ pub mod AllowedLaws
 mod WeightLaws
 pub mod ShapeLaws
 pub mod RisingLaws
+pub mod WalkLaws
+pub mod PlaceLaws
+pub mod EqualityLaws
+pub mod BuildingLaws

@@ -16,7 +16,8 @@ pub elements_from_trees : (ts : Elements) → elements_from (trees_in ts) ≡ ts
 elements_from_trees no_elements = refl
 elements_from_trees (element t ts) = ap (λ r. element t r) (elements_from_trees ts)
 
-object_is_made : (t u : Tree) → Some t ≡ if_object u → u ≡ object (members_from (pairs_of u))
+-- a tree that is seen as an object is made of its pairs
+pub object_is_made : (t u : Tree) → Some t ≡ if_object u → u ≡ object (members_from (pairs_of u))
 object_is_made t (scalar null) e = cc
 object_is_made t (scalar (boolean b)) e = cc
 object_is_made t (scalar (number n)) e = cc
@@ -24,7 +25,8 @@ object_is_made t (scalar (string s)) e = cc
 object_is_made t (array ts) e = cc
 object_is_made t (object ms) e = ap object (sym (members_from_pairs ms))
 
-array_is_made : (t u : Tree) → Some t ≡ if_array u → u ≡ array (elements_from (elements_of u))
+-- a tree that is seen as an array is made of its elements
+pub array_is_made : (t u : Tree) → Some t ≡ if_array u → u ≡ array (elements_from (elements_of u))
 array_is_made t (scalar null) e = cc
 array_is_made t (scalar (boolean b)) e = cc
 array_is_made t (scalar (number n)) e = cc

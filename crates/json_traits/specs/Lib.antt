@@ -8,3 +8,6 @@ pub mod Gives
 pub mod Kinds
 pub mod Allowed
 pub mod Identities
+pub mod Cows
+pub mod Instances
+pub mod Keeping

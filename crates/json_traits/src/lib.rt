@@ -8,6 +8,10 @@
 //! of its string nodes. A function over nodes that calls itself takes a [`NodeFamily`], and [`FamilyOf`] is that of each kind of node.
 //! [`laws`] says that keys rise at each level of every node's tree.
 //!
+//! `Node::equals_value` is JSON equality with a value in memory, and `Node::to_value` a value of the node's tree, as a [`ValueCow`]: it is
+//! borrowed where the node is that of a value, and built of any other node. `TooDeep`, a [`ValueError`], is answered exactly where the
+//! node nests more than 128 containers. A [`LazyInstance`] makes the value where it is asked for first, and keeps it.
+//!
 //! The keyword `type` of a schema names one type, or several in an array. [`types::JsonType`] is a type, with its name;
 //! [`types::JsonTypeSet`] is a set of types, in one byte, which also says whether it allows a value.
 //!
@@ -23,17 +27,21 @@
 //!
 //! The source is JSON Schema 2020-12, validation, section 6.1.1. A set holds exactly the types that are put in: `Integer`
 //! is not held where `Number` alone is. The order of the types is this project's own: `null`, `boolean`, `integer`,
-//! `number`, `string`, `array`, `object`. Only `JsonNumber::as_str`, `Json::prepare_key` and `Json::string_node`
-//! take memory.
+//! `number`, `string`, `array`, `object`. Only `JsonNumber::as_str`, `Json::prepare_key`, `Json::string_node`,
+//! `Node::to_value`, and what calls it, take memory.
 #![tactic(auto)]
 
 mod array;
+mod building;
+mod equality;
 mod has_name;
 mod has_tree;
 mod identity;
 mod json;
 mod json_number;
 pub mod laws;
+mod lazy_instance;
+mod nesting;
 mod node;
 mod node_family;
 mod object;
@@ -41,6 +49,8 @@ mod rising;
 #[cfg(test)]
 mod tests;
 pub mod types;
+mod value_cow;
+mod value_error;
 
 pub use array::Array;
 pub use has_name::HasName;
@@ -48,6 +58,9 @@ pub use has_tree::HasTree;
 pub use identity::NodeIdentity;
 pub use json::Json;
 pub use json_number::JsonNumber;
+pub use lazy_instance::LazyInstance;
 pub use node::Node;
 pub use node_family::{FamilyOf, NodeFamily};
 pub use object::Object;
+pub use value_cow::ValueCow;
+pub use value_error::ValueError;

@@ -10,6 +10,7 @@ use crate::object::JsonbObject;
 use crate::opening::is_object;
 use crate::scalar::text_of;
 use bytecount::num_chars;
+use json_exact::Value;
 use json_traits::types::JsonType;
 use json_traits::{HasTree, Node, NodeIdentity};
 
@@ -40,7 +41,7 @@ fn tag(kind: Kind, length: usize) -> u32
 }
 
 impl<'a> Node<'a> for JsonbNode<'a> {
-    ghost use Rattle.std.specs.Prelude.{Some, map, option_map, IfSome};
+    ghost use Rattle.std.specs.Prelude.{None, Some, map, option_map, IfSome};
     ghost use Rattle.json_model.specs.Parts.{elements_of, if_array, if_object, pairs_of};
     ghost use Rattle.jsonb_layout.specs.Seats.{AreHeld};
     ghost use Rattle.json_traits.specs.Identities.{pair};
@@ -48,6 +49,8 @@ impl<'a> Node<'a> for JsonbNode<'a> {
     ghost use Rattle.jsonb.specs.Seated.{some_identity, node_seat, seat_tree, array_seats, object_seats, member_tree, values_of};
 
     ghost identity_of = { some_identity };
+
+    ghost value_of = { λ _. None };
 
     type Object = JsonbObject<'a>;
 
@@ -177,5 +180,10 @@ impl<'a> Node<'a> for JsonbNode<'a> {
             Kind::Container => self.identity(),
             _ => None,
         }
+    }
+
+    /// None: a slice holds no `Value`.
+    fn as_value(&self) -> Option<&'a Value> {
+        None
     }
 }

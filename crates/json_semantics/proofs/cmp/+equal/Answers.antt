@@ -1,5 +1,6 @@
 use Rattle.std.proofs.Common.{◌≡◌, ◌≤◌, true, length, map, ap, sym, subst, refl, arith, ◌∙◌}
 use Rattle.std.specs.Prelude.{not}
+use Rattle.std.proofs.lemmas.List.{length-map}
 use Rattle.std.proofs.lemmas.Slice.Eq.{bytes_eq-Decides}
 use Rattle.json_model.proofs.KindLaws.{pairs_in_from}
 use Rattle.json_model.specs.Nest.{nest, nest_elements}
@@ -7,14 +8,15 @@ use Rattle.json_model.specs.Parts.{elements_from}
 use Rattle.json_exact.specs.MapIteration.{left}
 use Rattle.json_exact.specs.Trees.{tree, pairs}
 use Rattle.json_exact.specs.declared.value.Value.{Value}
-use Rattle.json_semantics.proofs.NestLaws.{element_nests}
-use Rattle.json_semantics.proofs.PlaceLaws.{pairs_by_place, none_left, first_differs, same_length}
+use Rattle.json_exact.proofs.NestLaws.{element_nests}
+use Rattle.json_traits.proofs.EqualityLaws.{same_count}
+use Rattle.json_traits.proofs.PlaceLaws.{pairs_by_place, none_left, first_differs}
 use Rattle.json_semantics.proofs.cmp.+equal.Goals.{equal_objects-then-ne-via-then-ne, equal_objects-then-ne-via-else-ne+then-not-equal}
 use Rattle.json_semantics.proofs.cmp.+equal.Goals as goal
 
 pub equal_arrays-returns-then-left-right : goal.equal_arrays-returns-then-left-right
 equal_arrays-returns-then-left-right t c =
-    (λ h. absurd cc, λ h. absurd (c.if-left-right.true (same_length c.args.left.now c.args.right.now h)))
+    (λ h. absurd cc, λ h. absurd (c.if-left-right.true (sym (length-map c.args.left.now tree) ∙ same_count (map tree c.args.left.now) (map tree c.args.right.now) h ∙ length-map c.args.right.now tree)))
 
 pub equal_arrays-equal-requires : goal.equal_arrays-equal-requires
 equal_arrays-equal-requires t c =

@@ -5,7 +5,7 @@ use Rattle.json_model.specs.Parts.{elements_from, members_from}
 use Rattle.json_model.specs.Same.{SameElements}
 use Rattle.json_exact.specs.MapIteration.{left}
 use Rattle.json_exact.specs.Trees.{tree, pairs}
-use Rattle.json_semantics.proofs.PlaceLaws.{SameAtPlaces}
+use Rattle.json_traits.proofs.PlaceLaws.{SameAtPlaces}
 use Rattle.json_semantics.proofs.cmp.+equal.Given as goal
 
 abbrev pub decreases-equal : goal.decreases-equal

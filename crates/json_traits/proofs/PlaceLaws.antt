@@ -5,11 +5,9 @@ use Rattle.std.specs.Str.{bytes_eq}
 use Rattle.std.specs.List.{AllByRecursion}
 use Rattle.std.proofs.lemmas.Slice.Eq.{bytes_eq-Decides}
 use Rattle.json_model.specs.Keys.{key_before, rises}
-use Rattle.json_model.specs.Parts.{pairs_in, members_from, elements_from, lookup}
-use Rattle.json_model.specs.Same.{Same, SameElements, SameMembers}
+use Rattle.json_model.specs.Parts.{pairs_in, members_from, lookup}
+use Rattle.json_model.specs.Same.{Same, SameMembers}
 use Rattle.json_model.specs.Tree.{Tree, object, Members, no_members, member, keys}
-use Rattle.json_exact.specs.Trees.{tree}
-use Rattle.json_exact.specs.declared.value.Value.{Value}
 use Rattle.json_model.proofs.KeyOrderLaws.{key_total, not_before, rises_all, rises_tail}
 use Rattle.json_traits.proofs.RisingLaws.{keys_from}
 
@@ -151,9 +149,16 @@ first_differs p q ps qs rs ss e f h s =
     let u = subst (λ (zs : List (List ℕ × Tree)). SameAtPlaces (members_from zs) (members_from (q ∷ ss))) e t in
     h u.0 u.1
 
--- arrays that are the same have as many elements
-pub same_length : (vs ws : List Value) → SameElements (elements_from (map tree vs)) (elements_from (map tree ws)) → length vs ≡ length ws
-same_length [] [] s = refl
-same_length [] (w ∷ ws) s = absurd s
-same_length (v ∷ vs) [] s = absurd s
-same_length (v ∷ vs) (w ∷ ws) s = ap suc (same_length vs ws s.1)
+-- where the first pairs are the same, what is left without them decides
+pub first_same : (p q : List ℕ × Tree) (ps qs rs ss : List (List ℕ × Tree)) (Q : Type 0) → ps ≡ p ∷ rs → qs ≡ q ∷ ss → (p.0 ≡ q.0) × Same p.1 q.1
+    → SameAtPlaces (members_from ps) (members_from qs) ↔ Q → SameAtPlaces (members_from rs) (members_from ss) ↔ Q
+first_same p q ps qs rs ss Q e f s h =
+    let t = subst (λ (zs : List (List ℕ × Tree)). SameAtPlaces (members_from ps) (members_from zs) ↔ Q) f h in
+    let u = subst (λ (zs : List (List ℕ × Tree)). SameAtPlaces (members_from zs) (members_from (q ∷ ss)) ↔ Q) e t in
+    (λ r. u.0 (s.0, s.1, r), λ x. (u.1 x).2)
+
+-- with nothing left of the second, nothing differs
+pub none_right : (ps qs : List (List ℕ × Tree)) → qs ≡ [] → length ps ≡ length qs → SameAtPlaces (members_from ps) (members_from qs)
+none_right [] [] e n = tt
+none_right (p ∷ ps) [] e n = absurd (omega arith)
+none_right ps (q ∷ qs) e n = absurd cc

@@ -1,0 +1,86 @@
+-- When a tree is the same as one of a kind.
+use Rattle.std.proofs.Common.{arith, ◌≡◌, ◌+◌, ◌≤◌, ◌<◌, ℕ, ℤ, Bool, true, false, List, [], ◌∷◌, Some, None, drop, length, map, get_or, refl, sym, ap, subst, suc, ◌∙◌}
+use Rattle.std.specs.Prelude.{IsTrue, ◌↔◌}
+use Rattle.std.specs.Ordering.{int_eq}
+use Rattle.std.specs.Str.{bytes_eq}
+use Rattle.std.proofs.lemmas.Bool.Decides.{Decides-int_eq}
+use Rattle.std.proofs.lemmas.List.{drop_all, length-map}
+use Rattle.std.proofs.Math.ListN.{get_or-map}
+use Rattle.std.proofs.lemmas.Slice.Eq.{bytes_eq-Decides}
+use Rattle.json_model.specs.Decimal.{Decimal as Written, IsSameValue}
+use Rattle.json_model.specs.Parts.{as_boolean, as_number, as_string, elements_from, elements_of, if_array, if_object, is_null, members_from, pairs_of}
+use Rattle.json_model.specs.Same.{Same, SameElements}
+use Rattle.json_model.specs.Tree.{Tree, null, boolean, number, string, scalar, array, object, Elements}
+use Rattle.json_exact.specs.Exact.{IsWorth}
+use Rattle.json_exact.specs.Trees.{tree as value_tree}
+use Rattle.json_exact.specs.declared.value.Value.{Value}
+use Rattle.json_exact.proofs.WorthLaws.{same_as_written}
+use Rattle.json_model.proofs.KindLaws.{if_object_is, pairs_in_from}
+use Rattle.json_traits.proofs.ShapeLaws.{array_is_made, object_is_made}
+use Rattle.json_traits.proofs.WalkLaws.{leads}
+
+-- a test of two values tells whether what is written has one value
+pub same_value : (d e : ℤ) (w v : Written) (r : Bool) → r ≡ int_eq d e → IsWorth d w → IsWorth e v → IsTrue r ↔ IsSameValue w v
+same_value d e w v r is f g =
+    let s = same_as_written d e w v f g in
+    (λ h. s.0 ((Decides-int_eq d e).0 (sym is ∙ h)), λ h. is ∙ (Decides-int_eq d e).1 (s.1 h))
+
+-- an array is the same as one of the same elements
+pub same_array : (t u : Tree) (us : Elements) → Some t ≡ if_array u → SameElements (elements_from (elements_of u)) us ↔ Same u (array us)
+same_array t u us e = (
+  λ s. subst (λ (x : Tree). Same x (array us)) (sym (array_is_made t u e)) s,
+  λ s. subst (λ (x : Tree). Same x (array us)) (array_is_made t u e) s,
+)
+
+-- an object is the same as another tree where what it is made of is
+pub same_object : (t u v : Tree) → Some t ≡ if_object u → Same (object (members_from (pairs_of u))) v ↔ Same u v
+same_object t u v e = (
+  λ s. subst (λ (x : Tree). Same x v) (sym (object_is_made t u e)) s,
+  λ s. subst (λ (x : Tree). Same x v) (object_is_made t u e) s,
+)
+
+-- objects that are the same have as many members
+pub same_members : (t u : Tree) (qs : List (List ℕ × Tree)) → Some t ≡ if_object u → Same u (object (members_from qs)) → length (pairs_of t) ≡ length qs
+same_members t u qs e h =
+    let s = (same_object t u (object (members_from qs)) e).1 h in
+    ap (λ (w : Tree). length (pairs_of w)) (if_object_is u e)
+    ∙ sym (ap length (pairs_in_from (pairs_of u)))
+    ∙ s.0
+    ∙ ap length (pairs_in_from qs)
+
+-- arrays that are the same have as many elements
+pub same_count : (ts us : List Tree) → SameElements (elements_from ts) (elements_from us) → length ts ≡ length us
+same_count [] [] s = refl
+same_count [] (w ∷ ws) s = absurd s
+same_count (v ∷ vs) [] s = absurd s
+same_count (v ∷ vs) (w ∷ ws) s = ap suc (same_count vs ws s.1)
+
+-- the trees of values, at a place
+pub tree_leads : (vs : List Value) (i : ℕ) (v : Value) → i < length vs → v ≡ get_or vs i v → drop i (map value_tree vs) ≡ value_tree v ∷ drop (i + 1) (map value_tree vs)
+tree_leads vs i v lt e =
+    leads (map value_tree vs) i (value_tree v) (omega (arith, length-map vs value_tree)) (ap value_tree e ∙ sym (get_or-map value_tree vs i v))
+
+-- what is left of two arrays decides whether they are the same
+abbrev pub Decide : List Tree → List Tree → ℕ → Type 0
+Decide ts us i = SameElements (elements_from (drop i ts)) (elements_from (drop i us)) ↔ SameElements (elements_from ts) (elements_from us)
+
+module _ (ts us : List Tree) (i : ℕ) (left : Decide ts us i) where
+  module _ (t u : Tree) (e : drop i ts ≡ t ∷ drop (i + 1) ts) (f : drop i us ≡ u ∷ drop (i + 1) us) where
+    split : SameElements (elements_from (t ∷ drop (i + 1) ts)) (elements_from (u ∷ drop (i + 1) us)) ↔ SameElements (elements_from ts) (elements_from us)
+    split =
+        subst (λ (xs : List Tree). SameElements (elements_from xs) (elements_from (u ∷ drop (i + 1) us)) ↔ SameElements (elements_from ts) (elements_from us)) e
+        (subst (λ (xs : List Tree). SameElements (elements_from (drop i ts)) (elements_from xs) ↔ SameElements (elements_from ts) (elements_from us)) f left)
+
+    -- the next two are the same, so what is left without them decides
+    pub next_same : Same t u → Decide ts us (i + 1)
+    next_same s = (λ r. split.0 (s, r), λ q. (split.1 q).1)
+
+    -- the next two differ
+    pub next_differs : (Same t u → ⊥) → SameElements (elements_from ts) (elements_from us) → ⊥
+    next_differs n q = n (split.1 q).0
+
+  -- nothing is left
+  pub none_differs : length ts ≤ i → length us ≤ i → SameElements (elements_from ts) (elements_from us)
+  none_differs le lf =
+      left.0 (subst (λ (xs : List Tree). SameElements (elements_from xs) (elements_from (drop i us))) (sym (drop_all i ts le))
+      (subst (λ (xs : List Tree). SameElements (elements_from []) (elements_from xs)) (sym (drop_all i us lf)) tt))

@@ -48,10 +48,11 @@ HasForm Required v = IsSomeAnd (as_array v) AreNames
 abbrev pub IsFair : List ℕ × Tree → Type 0
 IsFair p = IsSomeAnd (keyword_of p.0) (λ w. HasForm w p.1)
 
--- a member's faults, of which it has one at most
+-- the name is one that is still to come
 abbrev pub IsToCome : List ℕ → Type 0
 IsToCome name = IsTrue (list_any (bytes_eq name) to_come)
 
+-- a member's faults, of which it has one at most
 abbrev pub IsUnknown : List ℕ × Tree → Type 0
 IsUnknown p = (keyword_of p.0 ≡ None) × (IsToCome p.0 → ⊥)
 

@@ -116,7 +116,8 @@ impl Checks {
         }
     }
 
-    /// The checks of one keyword, as member number `member` of its object. The error is that member's fault.
+    /// The checks of one keyword, as member number `member` of its object. The error is that member's fault, or
+    /// want of memory, which comes of `required` with a list alone.
     pub fn of_member<'a, N: Node<'a>>(
         alloc: Global,
         name: &str,

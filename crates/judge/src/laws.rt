@@ -5,7 +5,6 @@ ghost use Rattle.judge.specs.Passes.{Passes};
 ghost use Rattle.json_exact.specs.Trees.{tree};
 ghost use Rattle.json_model.specs.Same.{Same};
 ghost use Rattle.judge.specs.Right.{Answer, Right, RightOnTrees};
-ghost use Rattle.judge.specs.Validity.{IsValid};
 ghost use Rattle.judge.specs.Verdict.{Verdict};
 ghost use Rattle.judge.specs.declared.errors.KeywordError.{KeywordError};
 
@@ -48,14 +47,14 @@ pub fn some_answer_on_values(keywords: &Value, document: &Value)
     let _document = ValueNode::new(document);
 }
 
-/// Documents that are equal by JSON equality have one verdict under each valid keyword object, whatever holds the three: 1 is
+/// Documents that are equal by JSON equality have one verdict under each keyword object, whatever holds the three: 1 is
 /// 1.0. It passes over each document once, by recursion as deep as it nests, and takes no memory.
 pub fn equal_documents_have_one_verdict<'a, K: Node<'a>, M: Node<'a>, N: Node<'a>>(
     keywords: &K,
     left: &M,
     right: &N,
 )
-    ensures { IsValid (K.tree keywords.now) → Same (M.tree left.now) (N.tree right.now)
+    ensures { Same (M.tree left.now) (N.tree right.now)
         → Verdict (K.tree keywords.now) (M.tree left.now) ↔ Verdict (K.tree keywords.now) (N.tree right.now) }
 {
     let _keywords = keywords;

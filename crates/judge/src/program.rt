@@ -36,8 +36,8 @@ pub fn run<S: Source, K: Sink>(
     ensures write_fault { result ≡ Status.WriteFault
         → Rose (K.faults sink.old) (K.faults sink.new) }
 
-    // A stream that failed is not asked again: one that counts its failures has one more at its fault and none more at
-    // each other status, and its last call was the one that failed.
+    // A stream that counts its failures is not asked again after one: it has one more at its fault and none more at each
+    // other status, and its last call was the one that failed.
     ensures reads_once { IsTrue S.counts_each
         → CountsOnce Status.ReadFault (S.faults source.old) (S.faults source.new) result }
     ensures writes_once { IsTrue K.counts_each

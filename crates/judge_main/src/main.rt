@@ -6,6 +6,7 @@
 
 ghost use Rattle.std.specs.Prelude.{◌≡◌, ◌⊎◌, map, string_bytes, IfErr, IfOk};
 ghost use Rattle.std.specs.Process.{exit_status};
+ghost use Rattle.judge.specs.Faults.{Rose};
 ghost use Rattle.judge_main.specs.Ending.{Ends};
 
 mod adapters;
@@ -48,7 +49,10 @@ fn end_code<S: Source, K: Sink>(
     ensures no_words { IfErr words (λ code. exit_status result ≡ code) }
     ensures ends { IfOk words (λ texts. Ends (map string_bytes texts.items)
         (S.left source.old) (S.left source.new)
-        (K.written sink.old) (K.written sink.new) (exit_status result)) }
+        (K.written sink.old) (K.written sink.new)
+        ((source.new ≡ source.old) × (sink.new ≡ sink.old))
+        (Rose (S.faults source.old) (S.faults source.new))
+        (Rose (K.faults sink.old) (K.faults sink.new)) (exit_status result)) }
 {
     match words {
         Ok(words) => ExitCode::from(judge::run(alloc, &words, source, sink).code()),

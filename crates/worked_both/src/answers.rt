@@ -76,7 +76,7 @@ fn text_value(alloc: Global, text: &str) -> Option<Value> {
 }
 
 /// The array of one value.
-fn array_of(alloc: Global, element: Value) -> Option<Value> {
+pub(crate) fn array_of(alloc: Global, element: Value) -> Option<Value> {
     let mut elements = Vec::new(alloc);
     elements.push(element).ok()?;
     Some(Value::Array(elements))

@@ -10,3 +10,5 @@ mod families;
 mod lookups;
 #[cfg(test)]
 mod places;
+#[cfg(test)]
+mod values;

@@ -79,8 +79,8 @@ keep_part p b e = go (has_hyphens true p) refl
         let (escape, hyphens) = both (is_escape p.0) (is_at 45 p.1 && is_at 45 (drop 1 p.1)) h in
         let range : makes_range p.1 ≡ true = hyphen_ranges p.1 hyphens in
         let none : part_from false p ≡ None =
-            ap (λ z. if z then option_and_then (range_to p.0) (class_atom (drop 1 p.1)) else Some (item_of_atom p.0 ∷ [], p.1)) range
-            ∙ no_range p.0 (class_atom (drop 1 p.1)) escape in
+        ap (λ z. if z then option_and_then (range_to p.0) (class_atom (drop 1 p.1)) else Some (item_of_atom p.0 ∷ [], p.1)) range
+        ∙ no_range p.0 (class_atom (drop 1 p.1)) escape in
         cc
 
 keep_class_part : (x : Text) → Keeps (class_part false x) (class_part true x)

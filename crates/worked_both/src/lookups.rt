@@ -124,10 +124,10 @@ fn a_number_is_under_its_key(rt: HostRuntime) -> Result<(), Fail> {
     let bytes = decode_hex(alloc, "01000020010000800b000010610000002000000000800100")?;
     let in_slice = Jsonb::root(alloc, &bytes)?.as_object().ok_or("an object")?;
     let mut members = Map::new(alloc);
-    members.insert(
-        String::from_str(alloc, "a")?,
-        Value::Number(Number::parse("1")?),
-    )?;
+    let one = Value::Number(Number::parse("1")?);
+    if members.insert(String::from_str(alloc, "a")?, one).is_err() {
+        panic!(rt; "no memory");
+    }
     let value = Value::Object(members);
     let in_memory = ValueNode::new(&value).as_object().ok_or("an object")?;
     for (name, found) in [("a", Some(1)), ("b", None)] {

@@ -1,16 +1,15 @@
 -- Where the items of a class stand, as they are read.
-use Rattle.std.proofs.Common.{◌≡◌, ℕ, ◌+◌, ◌-◌, ◌≤◌, Bool, true, false, ◌&&◌, List, [], ◌∷◌, ◌++◌, drop, length, map, Option, Some, None, Ok, Err, IfOk, IfSome, Bor, not, refl, ap, sym, ◌∙◌, subst, arith, inl, inr, append_assoc}
+use Rattle.std.proofs.Common.{◌≡◌, ℕ, ◌+◌, ◌-◌, ◌≤◌, Bool, true, false, ◌&&◌, List, [], ◌∷◌, ◌++◌, drop, length, Option, Some, None, Ok, Err, IfOk, IfSome, Bor, refl, ap, ◌∙◌, subst, arith, append_assoc}
 use Rattle.std.specs.Str.{chars}
 use lib.Utf8.{encodes}
 use denote.Text.{Utf8}
 use denote.Shadow.{shadow}
 use Rattle.pattern_model.specs.Text.{Text, is_at}
 use Rattle.pattern_model.specs.Tree.{Item, Token}
-use Rattle.pattern_model.specs.Classes.{Atom, class_atom, item_of_atom, range_of, makes_range, is_escape, has_hyphens}
+use Rattle.pattern_model.specs.Classes.{Atom, makes_range, is_escape, has_hyphens}
 use Rattle.pattern_model.specs.Spans.{IsAfter, PlacedItem, ReadsItem, ItemsRead, ItemsStand}
 use Rattle.pattern_model.proofs.SpanLaws.{after_bytes}
-use Rattle.pattern_model.proofs.ItemLaws.{reads_hyphen, items_stand, after_bracket, after_caret, after_close}
-use Rattle.pattern_tree.specs.declared.class_item.ClassItem.{ClassItem}
+use Rattle.pattern_model.proofs.ItemLaws.{items_stand, after_close}
 use Rattle.pattern_tree.specs.declared.node.Single.{Single}
 use Rattle.pattern_tree.specs.declared.node.Single.TheVariants as singles
 use Rattle.pattern_tree.specs.declared.token.Token as rust
@@ -19,7 +18,7 @@ use Rattle.std.specs.Prelude.{Result, ◌==◌}
 use Rattle.pattern_model.specs.Tokens.{token_from}
 use Rattle.pattern_model.proofs.PlainTokens.{is_class, token_plain}
 use Rattle.pattern_tree.specs.Nodes.{token_of, leaf_of}
-use Rattle.pattern_tree.specs.Spans.{placed_of, inside, ItemsFit, TokenItems, PlacesItems}
+use Rattle.pattern_tree.specs.Spans.{inside, ItemsFit, TokenItems, PlacesItems}
 use Rattle.pattern_tree.proofs.SpanReader.{bytes_are}
 
 both : (a b : Bool) → a && b ≡ true → (a ≡ true) × (b ≡ true)

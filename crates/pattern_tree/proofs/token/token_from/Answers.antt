@@ -1,7 +1,5 @@
-use Rattle.std.proofs.Common.{◌≡◌, false, sym, rules}
+use Rattle.std.proofs.Common.{rules}
 use Rattle.std.specs.Str.{chars}
-use Rattle.pattern_model.proofs.PlainTokens.{token_plain}
-use Rattle.pattern_tree.specs.Nodes.{token_of}
 use Rattle.pattern_tree.proofs.ItemLemmas.{plain_result}
 use Rattle.pattern_tree.proofs.token.token_from.Goals as goal
 

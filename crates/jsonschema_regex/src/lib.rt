@@ -1,4 +1,4 @@
-//! Regular expressions as JSON Schema has them: ECMA-262 patterns, with the Unicode flag.
+//! Regular expressions as JSON Schema has them: patterns of ECMA-262 (16th edition, 2025) with the Unicode flag.
 //!
 //! [`is_valid_ecma_regex`] says whether a text is a pattern: true exactly where the grammar of `pattern_model` has a tree for it.
 //! For example
@@ -11,7 +11,11 @@
 //! | `(a)\2` | no: there is no second group |
 //! | `a{2,1}`, `(?=a)*`, `[z-a]`, `]` | no |
 //!
-//! It reads the text once, and takes memory for its tree; [`OutOfMemory`] says that memory could not be had.
+//! It departs from ECMA-262 in three points: a backslash may stand before every character that is not alphanumeric, property
+//! names are checked for their shape alone, and names of groups have the letters of Unicode's property Alphabetic.
+//!
+//! The text has fewer than 2^30 bytes. It is gone over from left to right, the digits of a count a few times. The call takes
+//! memory for the tree; [`OutOfMemory`] says that memory could not be had.
 #![tactic(auto)]
 
 #[cfg(test)]

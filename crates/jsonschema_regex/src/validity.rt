@@ -8,10 +8,13 @@ ghost use Rattle.pattern_model.specs.Grammar.{Grammar};
 use pattern_tree::{OutOfMemory, read_ecma};
 use std::alloc::Global;
 
-/// Whether a text is a pattern of ECMA-262 with the Unicode flag, named groups and modifiers: true exactly where the grammar
-/// has a tree for it. For example `(?<year>\d{4})` is one, and `(?<year>\d{4}` and `\d{4,2}` are none.
+/// Whether a text of fewer than 2^30 bytes is a pattern of ECMA-262 with the Unicode flag, named groups and modifiers: true
+/// exactly where the grammar has a tree for it. For example `(?<year>\d{4})` is one, and `(?<year>\d{4}` and `\d{4,2}` are none.
 ///
-/// It reads the text once, from left to right, and takes memory for its tree.
+/// The grammar departs from ECMA-262 in three points: a backslash may stand before every character that is not alphanumeric,
+/// property names are checked for their shape alone, and names of groups have the letters of Unicode's property Alphabetic.
+///
+/// It goes over the text from left to right, over the digits of a count a few times, and takes memory for its tree.
 pub fn is_valid_ecma_regex(alloc: Global, pattern: &str) -> Result<bool, OutOfMemory>
     requires { length pattern.now < 2 ^ 30 }
     ensures { IfOk result (λ yes. MatchBool yes

@@ -3,3 +3,5 @@ pub mod TokenTails
 pub mod PartLaws
 pub mod SpanLaws
 pub mod Widened
+pub mod PlainTokens
+pub mod ItemLaws

@@ -5,7 +5,7 @@ use Rattle.pattern_model.specs.Text.{Text, is_at, past}
 use Rattle.pattern_model.specs.Digits.{is_digit}
 use Rattle.pattern_model.specs.Letters.{is_ascii_letter}
 
--- UnicodePropertyNameCharacters, UnicodePropertyValueCharacters: letters, digits and `_`
+-- UnicodePropertyNameCharacters, which have no digits, here wider: as UnicodePropertyValueCharacters, letters, digits and `_`
 abbrev pub is_word : ℕ → Bool
 is_word c = is_ascii_letter c || (is_digit c || c == 95)
 

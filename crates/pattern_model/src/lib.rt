@@ -1,32 +1,42 @@
-//! What a pattern is: the grammar of ECMA-262 with the Unicode flag, named groups and modifiers, and the tree of each pattern.
+//! What a pattern is: the grammar of ECMA-262 (16th edition, 2025, section 22.2.1) with the `u` flag, and the tree of each pattern.
 //!
 //! There is no code here. `specs/` has the definitions, a file a concept, which the crates above cite. In prose:
 //!
 //! - A pattern is a disjunction: alternatives parted by `|`. An alternative is terms in a row, or nothing.
 //! - A term is an assertion, or an atom with or without a quantifier. Assertions are `^`, `$`, `\b`, `\B` and the look-around
 //!   groups; no quantifier may follow them.
-//! - A quantifier is `*`, `+`, `?`, `{n}`, `{n,}` or `{n,m}`, where n is at most m, and then `?` if it is lazy. n and m are
-//!   decimal digits, as many as you like.
+//! - A quantifier is `*`, `+`, `?`, `{n}`, `{n,}` or `{n,m}`, where n is at most m, and then `?` if it is lazy. n and m are ASCII
+//!   digits, one or more.
 //! - An atom is `.`, a group, a character class, an escape, or a character that stands for itself: any but
 //!   `^ $ \ . * + ? ( ) [ ] { } |`.
-//! - Groups are `(a)`, which has a number; `(?<name>a)`, which has a name too; `(?:a)`; and `(?i-s:a)` with flags out of `i`, `m`
-//!   and `s`, none twice and at least one. Look-around is `(?=a)`, `(?!a)`, `(?<=a)` and `(?<!a)`.
-//! - A group specifier's name is a letter, `$` or `_`, and then letters, digits, `$`, `_`, U+200C and U+200D. Any of them may be
-//!   written by a `\u` escape; names are compared as decoded. Two groups may share a name only in different alternatives.
-//! - Class escapes are `\d \D \s \S \w \W`. Property escapes are `\p{L}`, `\p{Script=Greek}` and the same with `P`. Back-references
-//!   are `\k<name>`, where some group has the name, and `\1`, where the pattern has so many groups with a number.
-//! - Character escapes are `\f \n \r \t \v`; `\cA`; `\0`, with no digit after it; `\x41`; `\u0041`, where two that are a surrogate
-//!   pair are one code point; `\u{41}`; and a backslash before any character that is no letter and no digit.
-//! - A class is `[`, then `^` if it is negated, items, `]`. An item is a class atom: any character but `]` and `\`, or one of the
-//!   escapes above, or `\b` (backspace). Where `-` stands between two atoms they are the ends of a range, and must be code points,
-//!   the first at most the last.
+//! - Groups are `(a)`, which has a number; `(?<name>a)`, which has a number and a name; `(?:a)`; and `(?i-s:a)`, with modifiers.
+//!   Look-around is `(?=a)`, `(?!a)`, `(?<=a)` and `(?<!a)`.
+//! - Modifiers are letters out of `i`, `m` and `s`, and at most one hyphen before, between or after them. There is at least one
+//!   letter, and none stands twice, not even on the two sides of the hyphen.
+//! - A name begins with a letter, `$` or `_`, and goes on with letters, digits, `$`, `_`, U+200C and U+200D. Each may be written by
+//!   a `\u` escape of a scalar value; names are compared as decoded. Two groups may share a name only where they stand in
+//!   different alternatives of one disjunction that is around both.
+//! - Class escapes are `\d \D \s \S \w \W`. Property escapes are `\p{L}`, `\p{Script=Greek}` and the same with `P`: in the braces
+//!   stands a word, or two with `=` between them, and a word is ASCII letters, ASCII digits and `_`, at least one.
+//! - Back-references are `\k<name>`, where some group has the name, and `\1`: a backslash and a number that does not begin with 0.
+//!   The number takes all ASCII digits that follow, and there are at least so many groups that have a number.
+//! - Character escapes are `\f \n \r \t \v`; `\cA`, with an ASCII letter; `\0`, with no ASCII digit after it; `\x41`; `\u0041`,
+//!   where two that are a surrogate pair are one code point; `\u{41}`, with one hex digit or more, and at most 10FFFF; and a
+//!   backslash before any character that is no letter and no digit.
+//! - A class is `[`, then `^` if it is negated, items, `]`. A class atom is any character but `]` and `\`, or a class, property or
+//!   character escape, or `\b` (backspace). Items are read from the left: an atom, or a range, which is two atoms with `-` between
+//!   them. The ends of a range are code points, the first at most the last. An atom that ended a range begins none, and a `-`
+//!   before `]` makes none: the items of `[a-z-9-]` are `a-z`, `-`, `9` and `-`.
 //!
-//! Three rules are this project's own. A backslash may stand before any character that is not alphanumeric, where ECMA-262 has
-//! only its syntax characters and `/`. Of property names only the shape is asked. And letters are those of Unicode's property
-//! Alphabetic, and digits those of the categories Nd, Nl and No, where ECMA-262 has ID_Start and ID_Continue.
+//! Letters are the characters of Unicode's property Alphabetic, and digits those of the categories Nd, Nl and No, where nothing
+//! else is said: in names and after backslashes.
 //!
-//! The widened grammar, also this project's own, has three additions: outside of classes `]` and `}` stand for themselves, and
-//! in a class `\d--`, and so with each class escape, is three items, two of them a hyphen.
+//! In three points this departs from ECMA-262. A backslash may stand before any character that is not alphanumeric, where
+//! ECMA-262 has only its syntax characters, `/`, and in a class `-`. Of properties only the shape is asked. And names are made of
+//! letters and digits as above, where ECMA-262 has ID_Start and ID_Continue.
+//!
+//! The widened grammar, this project's own, has three additions: outside of classes `]` and `}` stand for themselves, and in a
+//! class `\d--`, and so with each class escape, is three items, two of them a hyphen.
 //!
 //! `Grammar wide text tree` says that a text, as code points, is in a grammar with this tree. For example `a|b*` has the tree
 //!
@@ -35,6 +45,6 @@
 //! ```
 //!
 //! Several terms are joined from the left by `sequence`, several alternatives by `either`; an alternative without terms is
-//! `empty`. `Members` says which code points a class has, `Spans` where tokens stand, in bytes. In `proofs/`, `TokenTails` says
-//! that what follows a token is a tail of the text, and `SpanLaws` where it stands.
+//! `empty`. `Members` says which code points a class has, `Spans` where tokens and the items of classes stand, in bytes. In
+//! `proofs/`, `TokenTails` says that what follows a token is a tail of the text, and `SpanLaws` and `ItemLaws` where it stands.
 #![tactic(auto)]

@@ -16,3 +16,4 @@ pub mod SpanReader
 pub mod FormLaws
 pub mod MemberLaws
 pub mod ReadLemmas
+pub mod ItemLemmas

@@ -21,7 +21,7 @@ use Rattle.pattern_tree.specs.declared.span.Span.{Span}
 use Rattle.pattern_tree.specs.Nodes.{span_at, leaf_of, mark_of, bounds_of, InPart, InOuter, InReader}
 use Rattle.pattern_tree.specs.Parts.{with_node, with_disjunction, with_last}
 use Rattle.pattern_tree.specs.Patterns.{SpansStand}
-use Rattle.pattern_tree.specs.Spans.{NodeStands, NodesStand, TermsStand, AlternativesStand, PartStands, OuterStands, ReaderStands}
+use Rattle.pattern_tree.specs.Spans.{ItemsFit, NodeStands, NodesStand, TermsStand, AlternativesStand, PartStands, OuterStands, ReaderStands}
 use Rattle.pattern_tree.proofs.NodeLemmas.{in_part_more, in_outer_more, in_outer_front}
 use Rattle.pattern_tree.proofs.SpanSteps.{Added, one_added, added_after, longer, disjunction_added, term_stands, part_old, outer_old, outer_push, outer_pop, stands_old, below_is, from_here, to_here}
 
@@ -49,11 +49,12 @@ module _ (wide : Bool) (x : Text) where
       with_node old.nodes.items (shapes.Single l) s ≡ (nodes, id) →
       with_last nodes old.here.before old.here.last ≡ (new.nodes.items, new.here.before) → new.here.done ≡ old.here.done →
       new.here.last ≡ Some id → new.outer.items ≡ old.outer.items →
-      ReaderStands wide x old s.start → TokenStands wide x s.start (Token.leaf (leaf_of l)) s.end → ReaderStands wide x new s.end
-  single_stands old new l s nodes id h e q d k u r t =
+      ReaderStands wide x old s.start → TokenStands wide x s.start (Token.leaf (leaf_of l)) s.end → ItemsFit x l s.start s.end →
+      ReaderStands wide x new s.end
+  single_stands old new l s nodes id h e q d k u r t i =
       let one : Added wide x old.nodes.items (nodes, id) s.start s.end =
       subst (λ z. Added wide x old.nodes.items z s.start s.end) e (one_added wide x old.nodes.items (shapes.Single l) s s.start s.end
-      r.nodes refl t refl refl) in
+      r.nodes refl (t, i) refl refl) in
       grown_stands old.nodes.items (nodes, id) old.here old.outer.items new r.begin s.start s.end h.here h.outer r.here r.outer one q d k u
 
   pub open_stands : (old new : Reader) (o : Open) (start end : ℕ) → new.nodes.items ≡ old.nodes.items →

@@ -1,8 +1,14 @@
 -- Where the nodes of a pattern stand in its source. This project's own.
-use Rattle.std.specs.Prelude.{◌≡◌, ℕ, ◌<◌, Bool, true, List, [], ◌∷◌, length, slice_index_or, Option, Some, None}
+use Rattle.std.specs.Prelude.{◌≡◌, ℕ, ◌+◌, ◌-◌, ◌<◌, Bool, true, false, List, [], ◌∷◌, length, map, slice_index_or, Option, Some, None}
+use lib.Utf8.{encodes}
 use Rattle.pattern_model.specs.Text.{Text}
 use Rattle.pattern_model.specs.Tree.{Token}
-use Rattle.pattern_model.specs.Spans.{TokenStands}
+use Rattle.pattern_model.specs.Spans.{IsAfter, TokenStands, PlacedItem, ItemsStand}
+use Rattle.pattern_tree.specs.declared.class_item.ClassItem.{ClassItem}
+use Rattle.pattern_tree.specs.declared.node.Single.{Single}
+use Rattle.pattern_tree.specs.declared.node.Single.TheVariants as singles
+use Rattle.pattern_tree.specs.declared.token.Token as rust
+use Rattle.pattern_tree.specs.declared.token.Token.TheVariants as tokens
 use Rattle.pattern_tree.specs.declared.node.Node.{Node}
 use Rattle.pattern_tree.specs.declared.node.Shape.{Shape}
 use Rattle.pattern_tree.specs.declared.node.Shape.TheVariants as shapes
@@ -11,20 +17,43 @@ use Rattle.pattern_tree.specs.declared.reader.Open.{Open}
 use Rattle.pattern_tree.specs.declared.reader.Reader.{Reader}
 use Rattle.pattern_tree.specs.declared.span.Span.{Span}
 use Rattle.pattern_tree.specs.Below.{all_below}
-use Rattle.pattern_tree.specs.Nodes.{span_at, leaf_of, mark_of, bounds_of}
+use Rattle.pattern_tree.specs.Nodes.{span_at, item_of, leaf_of, mark_of, bounds_of, token_of}
 
 -- a node stands from one place to another
 pub record NodeStands (ns : List Node) (i : ℕ) (start end : ℕ) : Type 0 where
   pub from : (span_at ns i).start ≡ start
   pub to : (span_at ns i).end ≡ end
 
+abbrev pub placed_of : ClassItem → PlacedItem
+placed_of i = record { item = item_of i; start = i.span.start; end = i.span.end }
+
+-- where the items of a class begin that begins at this place: after its bracket, and `^` where it is negated
+abbrev pub inside : Bool → ℕ → ℕ
+inside true start = start + 2
+inside false start = start + 1
+
+-- the items of a class stand side by side, up to its closing bracket
+abbrev pub ItemsFit : Text → Single → ℕ → ℕ → Type 0
+ItemsFit x (singles.Class negated items) start end =
+    (last : ℕ) × ItemsStand x (inside negated start) (map placed_of items.items) last × (end ≡ last + 1)
+ItemsFit x _ start end = Unit {0}
+
+abbrev pub TokenItems : Text → rust.Token → ℕ → ℕ → Type 0
+TokenItems x (tokens.Single l) start end = ItemsFit x l start end
+TokenItems x _ start end = Unit {0}
+
+-- in each source of so many bytes in which the token begins the text y, and so many bytes are left after it
+abbrev pub PlacesItems : ℕ → Text → rust.Token → ℕ → Type 0
+PlacesItems total y t left = (x : Text) (start : ℕ) → IsAfter x start y → length (encodes x) ≡ total → TokenItems x t start (total - left)
+
 module _ (wide : Bool) (x : Text) where
-  -- The place is right for the shape, over the places of its parts. What stands by itself is one token. A group is a token
+  -- The place is right for the shape, over the places of its parts. What stands by itself is one token, and a
+  -- class has its items inside. A group is a token
   -- that opens it, its inside, and a parenthesis; a repeat is its inside and a quantifier. The parts of a sequence stand side
   -- by side, and those of an either have a bar between them.
   abbrev pub FitsShape : List Node → Shape → Span → Type 0
   FitsShape ns shapes.Empty s = s.start ≡ s.end
-  FitsShape ns (shapes.Single l) s = TokenStands wide x s.start (Token.leaf (leaf_of l)) s.end
+  FitsShape ns (shapes.Single l) s = TokenStands wide x s.start (Token.leaf (leaf_of l)) s.end × ItemsFit x l s.start s.end
   FitsShape ns (shapes.Group m i) s =
       TokenStands wide x s.start (Token.opens (mark_of m)) (span_at ns i).start × TokenStands wide x (span_at ns i).end Token.closes s.end
   FitsShape ns (shapes.Repeat i c) s =
@@ -71,6 +100,6 @@ module _ (wide : Bool) (x : Text) where
     pub here : PartStands r.nodes.items r.here begin at
 
 -- a token between two places leads from one state to the other
-abbrev pub StandsOn : Token → ℕ → ℕ → Reader → Reader → Type 0
-StandsOn t start end old new = (wide : Bool) (x : Text) → ReaderStands wide x old start → TokenStands wide x start t end →
-    ReaderStands wide x new end
+abbrev pub StandsOn : rust.Token → ℕ → ℕ → Reader → Reader → Type 0
+StandsOn t start end old new = (wide : Bool) (x : Text) → ReaderStands wide x old start → TokenStands wide x start (token_of t) end →
+    TokenItems x t start end → ReaderStands wide x new end

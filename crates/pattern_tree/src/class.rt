@@ -1,13 +1,15 @@
 //! The items of a class.
 
-ghost use Rattle.std.specs.Prelude.{◌≡◌, ◌+◌, ◌<◌, ◌≤◌, ◌^◌, ◌∷◌, ◌++◌, [], length, drop, map, List, Bool, true, false, IfOk, IfSome, IfNone, None, Some, option_map, MatchOption, ◌&&◌};
+ghost use Rattle.std.specs.Prelude.{◌≡◌, ◌+◌, ◌-◌, ◌<◌, ◌≤◌, ◌^◌, ◌∷◌, ◌++◌, [], length, drop, map, List, Bool, true, false, IfOk, IfSome, IfNone, None, Some, option_map, MatchOption, ◌&&◌};
 ghost use Rattle.std.specs.Str.{chars};
 ghost use Rattle.pattern_model.specs.Classes as grammar;
 ghost use Rattle.pattern_model.specs.Escapes as escapes;
 ghost use Rattle.pattern_model.specs.Text.{is_at};
 ghost use Rattle.pattern_model.specs.Classes.{class_atom, escaped_atom, property_atom, escape_or_code, makes_range, range_of, range_to, part_from, class_part, class_items, has_hyphens};
 ghost use Rattle.pattern_model.specs.Tree.{Item};
+ghost use Rattle.pattern_model.specs.Spans.{PlacedItem, ItemsRead};
 ghost use Rattle.pattern_tree.specs.Nodes.{item_of, form_item, atom_of};
+ghost use Rattle.pattern_tree.specs.Spans.{placed_of};
 
 use crate::class_item::{ClassEscape, ClassForm, ClassItem};
 use crate::escape::{character_escape, class_escape, past_property};
@@ -123,8 +125,12 @@ fn push(
 ) -> Result<(), AllocError>
     requires from { length from.now ≤ total }
     requires to { length to.now ≤ length from.now }
-    ensures { IfOk result (λ _.
+    ensures forms { IfOk result (λ _.
         map item_of items.new.items ≡ map item_of items.old.items ++ (form_item form ∷ [])) }
+    ensures places { IfOk result (λ _.
+        map placed_of items.new.items
+        ≡ map placed_of items.old.items ++ (record { item = form_item form; start = total - length from.now; end = total - length to.now }
+        ∷ [])) }
 {
     let span = Span {
         start: total - from.len(),
@@ -146,6 +152,9 @@ fn class_part<'a>(
     ensures some { IfOk result (λ o. IfSome o (λ y.
         (new : List Item) × (class_part wide (chars x.now) ≡ Some (new, chars y.now))
         × (map item_of items.new.items ≡ map item_of items.old.items ++ new))) }
+    ensures places { IfOk result (λ o. IfSome o (λ y.
+        (new : List PlacedItem) × (map placed_of items.new.items ≡ map placed_of items.old.items ++ new)
+        × ItemsRead (chars x.now) (total - length x.now) new (chars y.now) (total - length y.now))) }
     ensures len { IfOk result (λ o. IfSome o (λ y. length y.now < length x.now)) }
 {
     let Some((atom, after)) = class_atom(x) else {
@@ -186,6 +195,10 @@ pub(crate) fn class_items(
     ensures value { IfOk result (λ o.
         class_items wide (chars x.now) ≡ option_map (λ p.
         (map item_of p.0.items, chars p.1.now)) o) }
+    ensures places { IfOk result (λ o. IfSome o (λ p.
+        ItemsRead (chars x.now) (total - length x.now) (map placed_of p.0.items) (chars p.1.now)
+        (total - length p.1.now))) }
+    ensures ends { IfOk result (λ o. IfSome o (λ p. is_at 93 (chars p.1.now) ≡ true)) }
     ensures len { IfOk result (λ o. IfSome o (λ p. length p.1.now ≤ length x.now)) }
 {
     let mut items = Vec::new(alloc);

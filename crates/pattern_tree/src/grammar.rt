@@ -11,9 +11,10 @@ use crate::pattern::Pattern;
 use crate::reader::read;
 use std::alloc::Global;
 
-/// The tree of a pattern by the ECMA grammar; None exactly where the text is outside it.
+/// The tree of a pattern of fewer than 2^30 bytes by the ECMA grammar; None exactly where the text is outside it.
 ///
-/// It reads the text once, from left to right, and takes memory for the nodes, the open groups and the names.
+/// It goes over the text from left to right, over the digits of a count a few times, and takes memory for the nodes, the open
+/// groups and the names.
 pub fn read_ecma(alloc: Global, pattern: &str) -> Result<Option<Pattern>, OutOfMemory>
     requires { length pattern.now < 2 ^ 30 }
     ensures some { IfOk result (λ o. IfSome o (λ p. Grammar false (chars pattern.now) (tree_of p))) }
@@ -24,9 +25,9 @@ pub fn read_ecma(alloc: Global, pattern: &str) -> Result<Option<Pattern>, OutOfM
     Ok(read(alloc, false, pattern)?)
 }
 
-/// The tree of a pattern by the widened grammar; None exactly where the text is outside it. The widened grammar has three
-/// additions: outside of classes `]` and `}` are plain characters, and in a class a class escape and two hyphens directly
-/// after it are three items, two of them a hyphen.
+/// The tree of a pattern of fewer than 2^30 bytes by the widened grammar; None exactly where the text is outside it. The widened
+/// grammar has three additions: outside of classes `]` and `}` are plain characters, and in a class a class escape and two
+/// hyphens directly after it are three items, two of them a hyphen.
 pub fn read_widened(alloc: Global, pattern: &str) -> Result<Option<Pattern>, OutOfMemory>
     requires { length pattern.now < 2 ^ 30 }
     ensures some { IfOk result (λ o. IfSome o (λ p. Grammar true (chars pattern.now) (tree_of p))) }

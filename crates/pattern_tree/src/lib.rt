@@ -1,6 +1,6 @@
 //! Reads patterns to their trees, by the grammar of `pattern_model`: that of ECMA-262 with the Unicode flag, and a widened one.
 //!
-//! [`read_ecma`] gives the [`Pattern`] of a text, and None exactly where the text is no pattern. A pattern is asked node by node,
+//! [`read_ecma`] gives the [`Pattern`] of a text of fewer than 2^30 bytes, and None exactly where the text is no pattern. A pattern is asked node by node,
 //! by [`NodeId`]: `root` is the whole, `form` says what a node is and which nodes are its parts, `span` where it stands in the
 //! text, in bytes, `items` what a class lists, `name` what a group or a back-reference is called, and `class_has` whether a code
 //! point is a member. None of these takes memory. For example `(?<n>a+)|b` has the nodes
@@ -14,10 +14,12 @@
 //! ```
 //!
 //! Nodes stand in one vector, each after its parts, so a walk over them needs no recursion, and a pattern may nest as deep as
-//! its text is long: the reader goes over the text once, with a list of the groups that are open.
+//! its text is long: the reader goes over the text from left to right, over the digits of a count a few times, with a list of
+//! the groups that are open.
 //!
 //! It keeps a map from each name to the place of its last group, and finds the innermost open group around a place by halves.
-//! So n characters with k names and groups cost some n steps, and some log2 k for each name and each back-reference by name.
+//! So, by review, n characters with k names and groups cost some n steps, and some log2 k for each name and each back-reference
+//! by name.
 //!
 //! [`laws`] says that a text has at most one tree.
 #![tactic(auto)]

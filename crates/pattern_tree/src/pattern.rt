@@ -26,8 +26,9 @@ impl Pattern {
     ghost use Rattle.pattern_tree.specs.Forms.{IsForm, tree_items, tree_name};
     ghost use Rattle.pattern_tree.specs.Patterns.{HasNode, node_tree, node_span, tree_of};
 
-    /// The node of the whole pattern.
+    /// The node of the whole pattern, which stands from 0 to the end of the text.
     pub fn root(&self) -> NodeId
+        ensures whole { result.0 ≡ self.now.root }
         ensures node { HasNode self.now result }
         ensures tree { node_tree self.now result ≡ tree_of self.now }
     {

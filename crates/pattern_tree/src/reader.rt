@@ -9,6 +9,7 @@ ghost use Rattle.pattern_model.specs.Grammar.{Grammar};
 ghost use Rattle.pattern_tree.specs.Places.{has_all};
 ghost use Rattle.pattern_tree.specs.Nodes.{trees_of, state_of, InReader, token_of, StepsTo, Moves, mark_of, leaf_of, bounds_of};
 ghost use Rattle.pattern_tree.specs.Spans.{ReaderStands, StandsOn};
+ghost use Rattle.pattern_tree.specs.declared.token.Token.TheVariants as tokens;
 ghost use Rattle.pattern_tree.specs.Patterns.{tree_of, SpansStand};
 ghost use Rattle.pattern_model.specs.Text.{Text};
 
@@ -42,8 +43,7 @@ impl Reader {
         requires room { length self.old.nodes.items + 4 ≤ 2 ^ 32 }
         requires inside { InReader self.old }
         ensures step { OnOk result (StepsTo (tree.Token.leaf (leaf_of single)) self.old self.new) }
-        ensures stands { OnOk result (StandsOn (tree.Token.leaf (leaf_of single)) span.start span.end self.old
-            self.new) }
+        ensures stands { OnOk result (StandsOn (tokens.Single single) span.start span.end self.old self.new) }
     {
         let id = add(&mut self.nodes, Shape::Single(single), span)?;
         self.here = extend(&mut self.nodes, self.here, id)?;
@@ -54,7 +54,7 @@ impl Reader {
         requires inside { InReader self.old }
         ensures step { OnOk result (StepsTo (tree.Token.opens (mark_of mark)) self.old self.new) }
         ensures stands { OnOk result ((end : ℕ) →
-            StandsOn (tree.Token.opens (mark_of mark)) start end self.old self.new) }
+            StandsOn (tokens.Opens mark) start end self.old self.new) }
     {
         self.outer.push(Open {
             mark,
@@ -73,7 +73,7 @@ impl Reader {
         requires room { length self.old.nodes.items + 4 ≤ 2 ^ 32 }
         requires inside { InReader self.old }
         ensures step { OnOk result (StepsTo tree.Token.bar self.old self.new) }
-        ensures stands { OnOk result ((end : ℕ) → StandsOn tree.Token.bar start end self.old self.new) }
+        ensures stands { OnOk result ((end : ℕ) → StandsOn tokens.Bar start end self.old self.new) }
     {
         let id = close(&mut self.nodes, self.here, start)?;
         self.here = Part {
@@ -89,7 +89,7 @@ impl Reader {
         requires inside { InReader self.old }
         ensures step { IfOk result (λ yes. Moves tree.Token.closes self.old self.new yes) }
         ensures stands { IfOk result (λ yes.
-            yes ≡ true → StandsOn tree.Token.closes span.start span.end self.old self.new) }
+            yes ≡ true → StandsOn tokens.Closes span.start span.end self.old self.new) }
     {
         let Some(open) = self.outer.pop() else {
             return Ok(false);
@@ -111,7 +111,7 @@ impl Reader {
         ensures step { IfOk result (λ yes. Moves (tree.Token.times (bounds_of counts)) self.old self.new yes) }
         ensures stands { IfOk result (λ yes.
             yes ≡ true → (start : ℕ) →
-            StandsOn (tree.Token.times (bounds_of counts)) start end self.old self.new) }
+            StandsOn (tokens.Times counts) start end self.old self.new) }
     {
         let Some(id) = self.here.last else {
             return Ok(false);
@@ -137,7 +137,7 @@ impl Reader {
         requires inside { InReader self.old }
         ensures step { IfOk result (λ yes. Moves (token_of token) self.old self.new yes) }
         ensures stands { IfOk result (λ yes.
-            yes ≡ true → StandsOn (token_of token) span.start span.end self.old self.new) }
+            yes ≡ true → StandsOn token span.start span.end self.old self.new) }
     {
         match token {
             Token::Single(single) => {

@@ -1,6 +1,6 @@
 //! The tokens of a pattern.
 
-ghost use Rattle.std.specs.Prelude.{◌≡◌, ◌+◌, ◌<◌, ◌≤◌, ◌^◌, ℕ, [], ◌∷◌, ◌++◌, length, drop, map, IfOk, OnOk, IfSome, IfNone, option_map, nat_le, ◌==◌, true};
+ghost use Rattle.std.specs.Prelude.{◌≡◌, ◌+◌, ◌<◌, ◌≤◌, ◌^◌, ℕ, [], ◌∷◌, ◌++◌, length, drop, map, IfOk, OnOk, IfSome, IfNone, option_map, nat_le, ◌==◌, true, false};
 ghost use Rattle.std.specs.Str.{chars};
 ghost use Rattle.pattern_model.specs.Tokens as grammar;
 ghost use Rattle.pattern_model.specs.Tokens.{token_from, class_from, back_name, property_leaf, escaped};
@@ -11,6 +11,7 @@ ghost use Rattle.pattern_model.specs.Escapes as escapes;
 ghost use Rattle.pattern_model.specs.Tree.{count_of};
 ghost use Rattle.pattern_tree.specs.Capped.{IsCapped};
 ghost use Rattle.pattern_tree.specs.Nodes.{token_of, bounds_of, count_in, IsRefused};
+ghost use Rattle.pattern_tree.specs.Spans.{PlacesItems};
 
 use crate::class::class_items;
 use crate::escape::{character_escape, class_escape, name, past_property};
@@ -196,6 +197,8 @@ fn class_from(
     requires { length x.now ≤ total }
     ensures value { IfOk result (λ o.
         class_from wide (chars x.now) ≡ option_map (λ p. (token_of p.0, chars p.1.now)) o) }
+    ensures items { IfOk result (λ o. IfSome o (λ p.
+        PlacesItems total (91 ∷ chars x.now) p.0 (length p.1.now))) }
     ensures len { IfOk result (λ o. IfSome o (λ p. length p.1.now ≤ length x.now)) }
 {
     let negated = is_at('^', x);
@@ -282,17 +285,16 @@ fn escaped(alloc: Global, x: &str) -> Result<Option<(Token, &str)>, AllocError>
     }
 }
 
-/// The token that begins with `c`, and what follows it, in a source of `total` bytes. None where there is none, or a
+/// The token that begins with `c`, which is no bracket of a class, and what follows it. None where there is none, or a
 /// back-reference whose number no group has.
 #[tactic(auto, unfolding(pattern_model::specs::Tokens::token_from))]
-pub(crate) fn token_from(
+fn plain_token(
     alloc: Global,
     wide: bool,
-    total: usize,
     c: char,
     x: &str,
 ) -> Result<Option<(Token, &str)>, AllocError>
-    requires { length x.now ≤ total }
+    requires { (c == 91) ≡ false }
     ensures some { IfOk result (λ o. IfSome o (λ p.
         token_from wide c (chars x.now) ≡ Some (token_of p.0, chars p.1.now))) }
     ensures none { IfOk result (λ o. IfNone o (IsRefused (token_from wide c (chars x.now)))) }
@@ -309,7 +311,6 @@ pub(crate) fn token_from(
         '.' => Ok(Some((Token::Single(Single::Dot), x))),
         '^' => Ok(Some((Token::Single(Single::Start), x))),
         '$' => Ok(Some((Token::Single(Single::End), x))),
-        '[' => class_from(alloc, wide, total, x),
         '\\' => escaped(alloc, x),
         ']' | '}' => {
             if wide {
@@ -319,5 +320,30 @@ pub(crate) fn token_from(
             }
         }
         c => Ok(Some((Token::Single(Single::Code(u32::from(c))), x))),
+    }
+}
+
+/// The token that begins with `c`, and what follows it, in a source of `total` bytes. None where there is none, or a
+/// back-reference whose number no group has.
+#[tactic(auto, unfolding(pattern_model::specs::Tokens::token_from))]
+pub(crate) fn token_from(
+    alloc: Global,
+    wide: bool,
+    total: usize,
+    c: char,
+    x: &str,
+) -> Result<Option<(Token, &str)>, AllocError>
+    requires { length x.now ≤ total }
+    ensures some { IfOk result (λ o. IfSome o (λ p.
+        token_from wide c (chars x.now) ≡ Some (token_of p.0, chars p.1.now))) }
+    ensures none { IfOk result (λ o. IfNone o (IsRefused (token_from wide c (chars x.now)))) }
+    ensures items { IfOk result (λ o. IfSome o (λ p.
+        PlacesItems total (c ∷ chars x.now) p.0 (length p.1.now))) }
+    ensures len { IfOk result (λ o. IfSome o (λ p. length p.1.now ≤ length x.now)) }
+{
+    if c == '[' {
+        class_from(alloc, wide, total, x)
+    } else {
+        plain_token(alloc, wide, c, x)
     }
 }

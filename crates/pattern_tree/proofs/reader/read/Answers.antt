@@ -106,7 +106,9 @@ loop-c-preserved c =
           c.in_ok-take.ensures.groups c.in_ok-take.ensures.highest c.in_ok-take.ensures.references;
       groups = omega (arith, captures_one t, c.in_ok-take.ensures.groups, c.loop-c.invariant.groups, c.in-Some.ensures.1, l);
       after = after;
-      stands = c.in_ok-step.ensures.stands c.if-not-branch-2.false c.args.wide x c.loop-c.invariant.stands token;
+      stands = c.in_ok-step.ensures.stands c.if-not-branch-2.false c.args.wide x c.loop-c.invariant.stands token
+          (rw c.in-Some-read.is at c.in_ok-read.ensures.items x start
+          (subst (λ z. IsAfter x start z) c.in-Some.ensures.0 c.loop-c.invariant.after) bytes);
       placed = m.1 new s.step;
     }
 

@@ -7,7 +7,7 @@ use Rattle.pattern_tree.proofs.SpanReader.{bar_stands}
 use Rattle.pattern_tree.proofs.reader.Reader.bar.Goals as goal
 
 pub returns-clause-stands : goal.returns-clause-stands
-returns-clause-stands c = λ end wide x r t.
+returns-clause-stands c = λ end wide x r t i.
     bar_stands wide x c.args.self.now _ c.in_ok-id.id c.args.start end c.requires.inside c.in_ok-id.ensures.nodes refl refl r t
 
 pub returns-clause-step : goal.returns-clause-step

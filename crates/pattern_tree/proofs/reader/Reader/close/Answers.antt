@@ -8,7 +8,7 @@ use Rattle.pattern_tree.proofs.SpanReader.{close_stands}
 use Rattle.pattern_tree.proofs.reader.Reader.close.Goals as goal
 
 pub returns-clause-stands : goal.returns-clause-stands
-returns-clause-stands c = λ yes wide x r t.
+returns-clause-stands c = λ yes wide x r t i.
     close_stands wide x c.args.self.now _ c.in-Some.open _ c.add.new.nodes.items c.in_ok-inner.inner c.in_ok-id.id c.args.span
     c.requires.inside
     c.in-Some.ensures.items c.in_ok-inner.ensures.nodes c.in_ok-id.ensures.nodes c.in_ok-self.ensures.nodes c.in_ok-self.ensures.done

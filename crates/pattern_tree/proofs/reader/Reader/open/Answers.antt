@@ -5,7 +5,7 @@ use Rattle.pattern_tree.proofs.SpanReader.{open_stands}
 use Rattle.pattern_tree.proofs.reader.Reader.open.Goals as goal
 
 pub returns-clause-stands : goal.returns-clause-stands
-returns-clause-stands c = λ end wide x r t.
+returns-clause-stands c = λ end wide x r t i.
     open_stands wide x c.args.self.now _ (record { mark = c.args.mark; part = c.args.self.now.here; start = c.args.start }) c.args.start end
     refl c.in_ok-push.ensures.items refl refl refl r t
 

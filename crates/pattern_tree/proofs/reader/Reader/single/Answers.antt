@@ -8,9 +8,9 @@ use Rattle.pattern_tree.proofs.SpanReader.{single_stands}
 use Rattle.pattern_tree.proofs.reader.Reader.single.Goals as goal
 
 pub returns-clause-stands : goal.returns-clause-stands
-returns-clause-stands c = λ wide x r t.
+returns-clause-stands c = λ wide x r t i.
     single_stands wide x c.args.self.now _ c.args.single c.args.span c.add.new.nodes.items c.in_ok-id.id c.requires.inside
-    c.in_ok-id.ensures.nodes c.in_ok-self.ensures.nodes c.in_ok-self.ensures.done c.in_ok-self.ensures.last refl r t
+    c.in_ok-id.ensures.nodes c.in_ok-self.ensures.nodes c.in_ok-self.ensures.done c.in_ok-self.ensures.last refl r t i
 
 pub returns-clause-step : goal.returns-clause-step
 returns-clause-step c =

@@ -8,7 +8,7 @@ use Rattle.pattern_tree.proofs.SpanReader.{times_stands}
 use Rattle.pattern_tree.proofs.reader.Reader.times.Goals as goal
 
 pub returns-clause-stands : goal.returns-clause-stands
-returns-clause-stands c = λ yes start wide x r t.
+returns-clause-stands c = λ yes start wide x r t i.
     let ns = c.args.self.now.nodes.items in
     let id = c.in-Some.id in
     let from : c.start_of.result ≡ (span_at ns id).start = c.start_of.ensures ∙ ap (λ z. (span_at z id).start) c.deref-2.ensures.value in

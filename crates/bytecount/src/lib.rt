@@ -25,8 +25,6 @@ pub mod integer_simd;
 pub mod laws;
 mod naive;
 pub mod simd;
-#[cfg(test)]
-mod tests;
 
 pub use by_length::{count, num_chars};
 pub use naive::{naive_count, naive_count_32, naive_num_chars};

@@ -63,6 +63,3 @@ pub use number::Number;
 pub use number_error::NumberError;
 pub use out_of_memory::OutOfMemory;
 pub use value::Value;
-
-#[cfg(test)]
-mod tests;

@@ -33,8 +33,6 @@ pub mod numeric;
 pub mod numeric_check;
 mod object;
 mod serde_json;
-#[cfg(test)]
-mod tests;
 
 pub use array::ValueArray;
 pub use elements::ValueElements;

@@ -46,8 +46,6 @@ mod node;
 mod node_family;
 mod object;
 mod rising;
-#[cfg(test)]
-mod tests;
 pub mod types;
 mod value_cow;
 mod value_error;

@@ -15,8 +15,6 @@
 pub mod laws;
 mod map;
 mod map_error;
-#[cfg(test)]
-mod tests;
 
 pub use map::{KeyMap, Member};
 pub use map_error::MapError;

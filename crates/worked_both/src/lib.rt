@@ -1,5 +1,6 @@
 //! Tests of both representations, as tables: what a node of a slice answers, a node of the same value in memory answers
-//! too; the values under keys; and where the values of slices are. There is no code here but the tests and what they need.
+//! too; the values under keys; where the values of slices are; the seven types, and bounds of numbers. There is no code here
+//! but the tests and what they need.
 #![tactic(auto)]
 
 #[cfg(test)]
@@ -10,5 +11,9 @@ mod families;
 mod lookups;
 #[cfg(test)]
 mod places;
+#[cfg(test)]
+mod semantics;
+#[cfg(test)]
+mod types;
 #[cfg(test)]
 mod values;

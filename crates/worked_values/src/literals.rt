@@ -1,7 +1,8 @@
 //! Number literals: what they are read as, written as, and refused for.
 
-use json_exact::{Decimal, MapError, Number, NumberError};
+use json_exact::{Decimal, MapError, Number, NumberError, OutOfMemory};
 use std::alloc::{AllocError, Global};
+use std::error::Error;
 use std::test::Fail;
 
 /// A text of parts, each repeated so many times.
@@ -138,6 +139,8 @@ fn literals_end_at_their_limits(rt: HostRuntime) -> Result<(), Fail> {
 fn values_are_equal_and_ordered_whatever_is_written(rt: HostRuntime) -> Result<(), Fail> {
     let rising = [
         "-1e131071",
+        "-12345.0001",
+        "-12345",
         "-2",
         "-1.5",
         "-1",
@@ -150,7 +153,13 @@ fn values_are_equal_and_ordered_whatever_is_written(rt: HostRuntime) -> Result<(
         "1.25",
         "3",
         "12",
+        "12345",
+        "12345.0001",
+        "99999999999999999999999999999999999999e0",
         "1e38",
+        "99999999999999999999999999999999999999e1",
+        "99999999999999999999999999999999999999e2",
+        "99999999999999999999999999999999999999e3",
         "1e131071",
     ];
     for (place, text) in rising.iter().enumerate() {
@@ -181,6 +190,10 @@ fn values_are_equal_and_ordered_whatever_is_written(rt: HostRuntime) -> Result<(
     Ok(())
 }
 
+fn printed<E: Error>(alloc: Global, error: &E) -> Result<String, AllocError> {
+    format!(in alloc; "{error}")
+}
+
 #[test]
 fn refusals_print_their_names(rt: HostRuntime) -> Result<(), Fail> {
     let numbers = [
@@ -189,14 +202,15 @@ fn refusals_print_their_names(rt: HostRuntime) -> Result<(), Fail> {
         (NumberError::OutOfRange, "OutOfRange"),
     ];
     for (error, name) in &numbers {
-        assert_eq!(rt; error.to_string(rt.alloc())?.as_str(), *name);
+        assert_eq!(rt; printed(rt.alloc(), error)?.as_str(), *name);
     }
     let maps = [
         (MapError::RepeatedKey { place: 1 }, "RepeatedKey"),
         (MapError::OutOfMemory, "OutOfMemory"),
     ];
     for (error, name) in &maps {
-        assert_eq!(rt; error.to_string(rt.alloc())?.as_str(), *name);
+        assert_eq!(rt; printed(rt.alloc(), error)?.as_str(), *name);
     }
+    assert_eq!(rt; printed(rt.alloc(), &OutOfMemory)?.as_str(), "OutOfMemory");
     Ok(())
 }

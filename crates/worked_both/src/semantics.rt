@@ -1,8 +1,10 @@
-use crate::cmp::{equal, equal_numbers};
-use crate::node::ValueNode;
-use crate::numeric::{eq, ge, gt, le, lt};
-use crate::numeric_check::{BoundOp, check_bound, compile_bound};
+//! Values in memory as nodes, equality of values, and bounds of numbers.
+
 use json_exact::{Decimal, Map, Number, Value};
+use json_semantics::ValueNode;
+use json_semantics::cmp::{equal, equal_numbers};
+use json_semantics::numeric::{eq, ge, gt, le, lt};
+use json_semantics::numeric_check::{BoundOp, check_bound, compile_bound};
 use json_traits::types::JsonType;
 use json_traits::{Array, JsonNumber, Node, Object};
 use std::alloc::Global;

@@ -1,9 +1,7 @@
-use crate::decimal::{Decimal, DecimalParts};
-use crate::number::Number;
-use crate::out_of_memory::OutOfMemory;
-use std::alloc::Global;
+//! Decimals from groups and from machine integers, and numbers with their fraction digits.
+
+use json_exact::{Decimal, DecimalParts, Number};
 use std::cmp::Ordering;
-use std::error::Error;
 
 #[test]
 fn decimals_are_their_values(rt: HostRuntime) {
@@ -93,72 +91,6 @@ fn numbers_keep_their_fraction_digits(rt: HostRuntime) {
     assert_eq!(rt; number.fraction_digits(), 2);
     assert!(rt; number == again);
     assert!(rt; number != Number::new(one, 0));
-}
-
-#[test]
-fn numbers_are_written_with_their_fraction_digits(rt: HostRuntime) {
-    let Some(minus_five_hundredths) = Decimal::from_groups(true, -1, &[0xf4, 0x01]) else {
-        panic!(rt; "-0.05 is narrow");
-    };
-    let Some(zero) = Decimal::from_groups(false, 0, &[]) else {
-        panic!(rt; "0 is narrow");
-    };
-    let Ok(text) = Number::new(minus_five_hundredths, 2).to_text(rt.alloc()) else {
-        panic!(rt; "no memory");
-    };
-    assert_eq!(rt; text.as_str(), "-0.05");
-    let Ok(text_of_zero) = Number::new(zero, 1).to_text(rt.alloc()) else {
-        panic!(rt; "no memory");
-    };
-    assert_eq!(rt; text_of_zero.as_str(), "0.0");
-}
-
-fn text_of<E: Error>(alloc: Global, error: &E) -> Option<String> {
-    format!(in alloc; "{error}").ok()
-}
-
-#[test]
-fn out_of_memory_shows_its_name(rt: HostRuntime) {
-    let Some(text) = text_of(rt.alloc(), &OutOfMemory) else {
-        panic!(rt; "no memory");
-    };
-    assert_eq!(rt; text.as_str(), "OutOfMemory");
-}
-
-#[test]
-fn literals_are_parsed(rt: HostRuntime) {
-    let Ok(number) = Number::parse("1.50") else {
-        panic!(rt; "1.50 is a number");
-    };
-    assert_eq!(rt; number.fraction_digits(), 2);
-    assert!(rt; Decimal::parse("1.5") == Ok(number.decimal()));
-    assert!(rt; Decimal::parse("-0.0") == Decimal::parse("0"));
-}
-
-#[test]
-fn parsed_decimals_are_in_the_order_of_their_values(rt: HostRuntime) {
-    let rows = [
-        ("-12345.0001", "-12345"),
-        ("12345", "12345.0001"),
-        (
-            "99999999999999999999999999999999999999e0",
-            "99999999999999999999999999999999999999e1",
-        ),
-        (
-            "99999999999999999999999999999999999999e1",
-            "99999999999999999999999999999999999999e2",
-        ),
-        (
-            "99999999999999999999999999999999999999e2",
-            "99999999999999999999999999999999999999e3",
-        ),
-    ];
-    for (lesser, greater) in rows {
-        match (Decimal::parse(lesser), Decimal::parse(greater)) {
-            (Ok(lesser), Ok(greater)) => assert!(rt; lesser < greater),
-            _ => assert!(rt; false, "{lesser} and {greater} are numbers"),
-        }
-    }
 }
 
 #[test]

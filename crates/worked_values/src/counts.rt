@@ -1,5 +1,7 @@
-use crate::simd::generic;
-use crate::{count, integer_simd, naive_count, naive_count_32, naive_num_chars, num_chars};
+//! Counts of bytes and of code points, by each kernel that takes the slice.
+
+use bytecount::simd::generic;
+use bytecount::{count, integer_simd, naive_count, naive_count_32, naive_num_chars, num_chars};
 
 // Whether each count that takes the slice answers `times`.
 fn all_count(haystack: &[u8], needle: u8, times: usize) -> bool {

@@ -1,4 +1,6 @@
-use crate::{KeyMap, MapError, Member};
+//! Maps of other values than trees: the order of their members, what they refuse, what they hand out.
+
+use key_map::{KeyMap, MapError, Member};
 use std::alloc::{AllocError, Global};
 
 fn members_of(alloc: Global, keys: &[&str]) -> Result<Vec<Member<u64>>, AllocError> {

@@ -1,7 +1,7 @@
 use Rattle.std.proofs.Common.{◌≡◌, ◌-◌, ◌*◌, ◌^◌, ℕ, refl, sym, ap, subst, arith, nat_abs}
 use Rattle.json_exact.specs.Exact.{parts}
 use Rattle.json_exact.proofs.WorthLaws.{exact_as_written}
-use Rattle.json_exact.proofs.tests.numbers_keep_their_fraction_digits.Goals as goal
+use Rattle.worked_values.proofs.decimals.numbers_keep_their_fraction_digits.Goals as goal
 
 pub from_groups-requires-clause-exact : goal.from_groups-requires-clause-exact
 unfolding parts

@@ -1,6 +1,6 @@
 use Rattle.std.proofs.Common.{ap, nat_abs}
 use Rattle.json_exact.specs.Exact.{parts}
-use Rattle.json_traits.proofs.tests.numbers_answer_through_their_trait.Goals as goal
+use Rattle.worked_both.proofs.types.numbers_answer_through_their_trait.Goals as goal
 
 pub new-one_point_zero-requires-clause-exact : goal.new-one_point_zero-requires-clause-exact
 unfolding parts

@@ -1,6 +1,6 @@
 use Rattle.std.proofs.Common.{◌*◌, ◌^◌, refl}
 use Rattle.json_exact.specs.Exact.{parts}
-use Rattle.json_exact.proofs.tests.whole_numbers_keep_their_value.Goals as goal
+use Rattle.worked_values.proofs.decimals.whole_numbers_keep_their_value.Goals as goal
 
 pub from_groups-largest-requires-clause-exact : goal.from_groups-largest-requires-clause-exact
 unfolding parts

@@ -1,6 +1,6 @@
 use Rattle.std.proofs.Common.{◌^◌, ◌*◌, ◌+◌, refl}
 use Rattle.json_exact.specs.Exact.{parts}
-use Rattle.json_exact.proofs.tests.decimals_are_their_values.Goals as goal
+use Rattle.worked_values.proofs.decimals.decimals_are_their_values.Goals as goal
 
 pub from_groups-one-requires-clause-exact : goal.from_groups-one-requires-clause-exact
 unfolding parts

@@ -1,6 +1,6 @@
 use Rattle.std.proofs.Common.{◌^◌, refl, ap, nat_abs}
 use Rattle.json_exact.specs.Exact.{parts}
-use Rattle.json_traits.proofs.tests.one_point_zero_is_an_integer.Goals as goal
+use Rattle.worked_both.proofs.types.one_point_zero_is_an_integer.Goals as goal
 
 pub from_groups-requires-clause-exact : goal.from_groups-requires-clause-exact
 unfolding parts

@@ -1,6 +1,6 @@
 use Rattle.std.proofs.Common.{◌*◌, ◌^◌, refl, ap, nat_abs}
 use Rattle.json_exact.specs.Exact.{parts}
-use Rattle.json_traits.proofs.tests.numbers_are_written_through_their_trait.Goals as goal
+use Rattle.worked_both.proofs.types.numbers_are_written_through_their_trait.Goals as goal
 
 pub from_groups-requires-clause-exact : goal.from_groups-requires-clause-exact
 unfolding parts

@@ -1,7 +1,8 @@
-use crate::identity::NodeIdentity;
-use crate::json_number::JsonNumber;
-use crate::types::{JsonType, JsonTypeSet, number_is_integer};
+//! The seven types, sets of them, identities, and numbers through their trait.
+
 use json_exact::{Decimal, Number, Value};
+use json_traits::types::{JsonType, JsonTypeSet, number_is_integer};
+use json_traits::{JsonNumber, NodeIdentity};
 use std::alloc::Global;
 
 const NAMES: [(&str, JsonType); 7] = [

@@ -1,5 +1,7 @@
 -- What groups are worth.
-use Rattle.std.proofs.Common.{◌≡◌, ℕ, zero, suc, ◌+◌, ◌*◌, ◌/◌, ◌^◌, Bool, true, false, List, [], ◌∷◌, length, refl, sym, ap, ◌∙◌, arith, ℤ}
+use Rattle.std.proofs.Common.{◌≡◌, ℕ, zero, suc, ◌+◌, ◌*◌, ◌/◌, ◌^◌, Bool, true, false, List, [], ◌∷◌, length, refl, sym, ap, ◌∙◌, arith, ℤ, w16, to_z, of_z}
+use mir.Val.{SFits}
+use Rattle.std.proofs.lemmas.Int.{to_z-of_z}
 use Rattle.std.proofs.Math.Nat.{pow-suc}
 use Rattle.std.proofs.lemmas.Nat.{pow-add}
 use native.Mathlib.Numerals.{unary_clauses}
@@ -68,3 +70,7 @@ not_narrow ds len n true (lost h) e = h.wide
 pub not_wide : {b more : ℕ} (ds : List ℕ) (len n : ℕ) (w : Bool) → Pushed b more ds len w n → HasNarrowDigits n → w ≡ false
 not_wide ds len n false h narrow = refl
 not_wide ds len n true (lost h) narrow = absurd (h.wide narrow)
+
+-- a lift of a 16-bit number is that of the integer
+pub lifts : (l : ℕ) (w : ℤ) → SFits w16 w → l ≡ lifted (to_z w16 (of_z w16 w)) → l ≡ lifted w
+lifts l w h e = e ∙ ap lifted (to_z-of_z w16 w h)

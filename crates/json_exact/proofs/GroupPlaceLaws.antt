@@ -1,14 +1,15 @@
 -- The group at a place that counts from the point is the one at the place that counts from the last of 4096 groups behind it.
-use Rattle.std.proofs.Common.{◌≡◌, ℕ, zero, suc, ◌+◌, ◌-◌, ◌*◌, ◌/◌, ◌%◌, ◌^◌, ◌<◌, ◌≤◌, ◌⊎◌, List, length, get_or, drop, sym, ap, subst, ◌∙◌, arith, inl, inr, ℤ, pos, negsuc, nat_abs}
+use Rattle.std.proofs.Common.{◌≡◌, ℕ, zero, suc, ◌+◌, ◌-◌, ◌*◌, ◌/◌, ◌%◌, ◌^◌, ◌<◌, ◌≤◌, ◌⊎◌, List, [], ◌∷◌, length, get_or, take, drop, sym, ap, subst, ◌∙◌, arith, inl, inr, ℤ, pos, negsuc, nat_abs}
 use Rattle.std.specs.Prelude.{◌+ℤ◌, ◌<ℤ◌}
 use Rattle.std.proofs.Math.Nat.{pow-suc, mul-div_cancel, div-div-eq-div-mul, mul-mod_left, eq_of_mul-eq-mul_right}
 use Rattle.std.proofs.lemmas.Nat.{pow-add, mod-mul-add}
 use Rattle.std.proofs.lemmas.Bool.{cases_lt}
 use Rattle.std.proofs.lemmas.Int.{ints}
-use Rattle.std.proofs.lemmas.List.{drop_all}
+use Rattle.std.proofs.lemmas.List.{drop_all, length-take-le}
+use native.Mathlib.Numerals.{unary_clauses}
 use Rattle.std.proofs.lemmas.List.Elements.{All-nil, All-cons}
 use Rattle.json_exact.specs.Exact.{parts}
-use Rattle.json_exact.specs.Digits.{joined, prefix}
+use Rattle.json_exact.specs.Digits.{joined}
 use Rattle.json_exact.specs.DecimalGroups.{group, IsGreatestPlace, IsLeastPlace}
 use Rattle.json_exact.specs.LeadingDigits.{Keeps}
 use Rattle.json_exact.specs.LeadingDigitsLaws.{power_pos}
@@ -102,17 +103,30 @@ greatest a d w h e some at = record {
   ];
 }
 
+-- one digit more
+pub take_joined : (b k : ℕ) (ds : List ℕ) → k < length ds → joined b (take (suc k) ds) ≡ joined b (take k ds) * b + get_or ds k 0
+take_joined b k [] lt = absurd (omega arith)
+take_joined b zero (d ∷ ds) lt = let e : b ^ 0 ≡ 1 = simp unary_clauses in rw e (omega arith)
+take_joined b (suc k) (d ∷ ds) lt =
+    let more = length-take-le (suc k) ds (omega arith) in
+    let less = length-take-le k ds (omega arith) in
+    rw (more, less) (step d b (b ^ k) (b ^ suc k) (joined b (take k ds)) (joined b (take (suc k) ds)) (get_or ds k 0) (pow-suc b k) (take_joined b k ds (omega arith)))
+  where
+    step : (d b u v x y g : ℕ) → v ≡ u * b → y ≡ x * b + g → d * v + y ≡ (d * u + x) * b + g
+    step d b u v x y g e f = rw (e, f) (omega arith)
+
 -- the digits up to a place as a number, and those past it
-pub prefix_joined : (b k r : ℕ) (ds : List ℕ) → length ds ≡ k + r → joined b ds ≡ prefix b ds k * b ^ r + joined b (drop k ds)
-prefix_joined b zero r ds e = none (b ^ r) (joined b ds)
+pub front_joined : (b k r : ℕ) (ds : List ℕ) → length ds ≡ k + r → joined b ds ≡ joined b (take k ds) * b ^ r + joined b (drop k ds)
+front_joined b zero r ds e = none (b ^ r) (joined b ds)
   where
     none : (u j : ℕ) → j ≡ 0 * u + j
     none u j = omega arith
-prefix_joined b (suc k) r ds e =
-    let h = prefix_joined b k (suc r) ds (omega arith) in
+front_joined b (suc k) r ds e =
+    let h = front_joined b k (suc r) ds (omega arith) in
     let c : joined b (drop k ds) ≡ get_or ds k 0 * b ^ r + joined b (drop (suc k) ds) = ap (λ (xs : List ℕ). joined b xs)
     (drop_at ds k (omega arith)) ∙ ap (λ (j : ℕ). get_or ds k 0 * b ^ j + joined b (drop (suc k) ds)) (drop_length (suc k) r ds e) in
-    h ∙ step (prefix b ds k) b (b ^ r) (b ^ suc r) (get_or ds k 0) (joined b (drop k ds)) (joined b (drop (suc k) ds)) (pow-suc b r) c
+    h ∙ step (joined b (take k ds)) b (b ^ r) (b ^ suc r) (get_or ds k 0) (joined b (drop k ds)) (joined b (drop (suc k) ds)) (pow-suc b r) c
+    ∙ ap (λ (x : ℕ). x * b ^ r + joined b (drop (suc k) ds)) (sym (take_joined b k ds (omega arith)))
   where
     step : (x b u v g j t : ℕ) → v ≡ u * b → j ≡ g * u + t → x * v + j ≡ (x * b + g) * u + t
     step x b u v g j t e f = rw (e, f) (omega arith)
@@ -120,7 +134,7 @@ prefix_joined b (suc k) r ds e =
 -- the groups up to the last that is not 0, moved by whole groups
 pub record UpTo (ds : List ℕ) (len n last : ℕ) : Type 0 where
   pub within : suc last ≤ len
-  pub exact : n ≡ prefix 10000 ds (suc last) * 10000 ^ (len - suc last)
+  pub exact : n ≡ joined 10000 (take (suc last) ds) * 10000 ^ (len - suc last)
 
 pub up_to : (ds : List ℕ) (len n last : ℕ) → Keeps 10000 10 ds len n → last < 11 → 0 < get_or ds last 0 → AreZeros (drop (suc last) ds) → UpTo ds len n last
 up_to ds len n last h lt some zeros = record {
@@ -132,10 +146,10 @@ up_to ds len n last h lt some zeros = record {
 }
   where
     a : ℕ
-    a = prefix 10000 ds (suc last)
+    a = joined 10000 (take (suc last) ds)
 
     all : joined 10000 ds ≡ a * 10000 ^ (10 - last)
-    all = prefix_joined 10000 (suc last) (10 - last) ds (let c = h.count in omega arith)
+    all = front_joined 10000 (suc last) (10 - last) ds (let c = h.count in omega arith)
         ∙ ap (λ (x : ℕ). a * 10000 ^ (10 - last) + x) (none_counts 10000 (omega arith) (drop (suc last) ds) zeros) ∙ none (a * 10000 ^ (10 - last))
       where
         none : (x : ℕ) → x + 0 ≡ x
@@ -159,7 +173,9 @@ up_to ds len n last h lt some zeros = record {
           (sym moved ∙ ap (λ (x : ℕ). n * x)
           (ap (λ (k : ℕ). 10000 ^ k) (let i : suc last ≡ suc t + len = omega arith in i) ∙ pow-add 10000 (suc t) len) ∙ sym (factor_last n (10000 ^ suc t) (10000 ^ len))) in
           let g : a % 10000 ≡ 0 = ap (λ (x : ℕ). x % 10000) (f ∙ ap (λ (x : ℕ). n * x) (pow-suc 10000 t) ∙ sym (factor_last n (10000 ^ t) 10000)) ∙ mul-mod_left (n * 10000 ^ t) 10000 in
-          let j : a % 10000 ≡ get_or ds last 0 = mod-mul-add (prefix 10000 ds last) 10000 (get_or ds last 0) (below_at 10000 ds last (omega arith) h.below) in
+          let few : last < length ds = (let c = h.count in omega arith) in
+          let j : a % 10000 ≡ get_or ds last 0 = ap (λ (x : ℕ). x % 10000) (take_joined 10000 last ds few)
+          ∙ mod-mul-add (joined 10000 (take last ds)) 10000 (get_or ds last 0) (below_at 10000 ds last (omega arith) h.below) in
           omega arith)
     ]
 
@@ -194,7 +210,7 @@ least a d w last h e lt some zeros at =
             let l = k.1 in
             let few : k.0 < a.top - suc last = omega (arith, ints) in
             sym (group_lifted p k.0 (nat_abs d) k.1) ∙ ap (λ (x : ℕ). x * 10 / 10000 ^ k.0 % 10000) s.abs
-            ∙ none (q * 10) (prefix 10000 a.groups (suc last)) (a.top - suc last) k.0 u.exact few
+            ∙ none (q * 10) (joined 10000 (take (suc last) a.groups)) (a.top - suc last) k.0 u.exact few
         | inr under ↦ sym (group_under p (nat_abs d) under)
       ];
     }

@@ -8,10 +8,12 @@ pub mod PartsLaws
 pub mod PushLaws
 pub mod FieldLaws
 pub mod GroupLaws
+pub mod FewLaws
 pub mod EqualityLaws
 pub mod WholeLaws
 pub mod MachineLaws
 pub mod OrderLaws
+pub mod WordLaws
 pub mod NumberLaws
 pub mod WorthLaws
 pub mod WrittenOrderLaws

@@ -19,7 +19,7 @@ use Rattle.json_exact.proofs.DigitLaws.{power_mono}
 use Rattle.json_exact.proofs.WholeLaws.{Sized, sized}
 
 -- o is the order of x and y
-abbrev Orders : Ordering → ℕ → ℕ → Type 0
+abbrev pub Orders : Ordering → ℕ → ℕ → Type 0
 Orders o x y = MatchOrdering o (x < y) (x ≡ y) (y < x)
 
 -- a larger high digit makes a larger number, whatever stands behind it
@@ -27,7 +27,7 @@ above : (x y j k p : ℕ) → j < p → x < y → x * p + j < y * p + k
 above x y j k p a h = let m : (x + 1) * p ≤ y * p = mul-le-mul_right p (omega arith) in omega arith
 
 -- the order of the high digits x and y decides, then that of what stands behind them, j and k
-high_then_low : (o s : Ordering) (x y j k p : ℕ) → j < p → k < p → Orders o x y → Orders s j k → Orders (ordering_then o s) (x * p + j) (y * p + k)
+pub high_then_low : (o s : Ordering) (x y j k p : ℕ) → j < p → k < p → Orders o x y → Orders s j k → Orders (ordering_then o s) (x * p + j) (y * p + k)
 high_then_low Less s x y j k p a b h g = above x y j k p a h
 high_then_low Greater s x y j k p a b h g = above y x k j p b h
 high_then_low Equal Less x y j k p a b h g = rw h (omega arith)
@@ -35,7 +35,7 @@ high_then_low Equal Equal x y j k p a b h g = rw h (omega arith)
 high_then_low Equal Greater x y j k p a b h g = rw h (omega arith)
 
 -- of two numbers with as many digits, the first digits that differ decide
-digits_order : (b : ℕ) (xs ys : List ℕ) → AllBelow b xs → AllBelow b ys → length xs ≡ length ys → Orders (slice_cmp nat_cmp xs ys) (joined b xs) (joined b ys)
+pub digits_order : (b : ℕ) (xs ys : List ℕ) → AllBelow b xs → AllBelow b ys → length xs ≡ length ys → Orders (slice_cmp nat_cmp xs ys) (joined b xs) (joined b ys)
 digits_order b [] [] h g e = refl
 digits_order b [] (y ∷ ys) h g e = absurd (omega arith)
 digits_order b (x ∷ xs) [] h g e = absurd (omega arith)

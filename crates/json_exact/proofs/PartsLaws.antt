@@ -7,22 +7,26 @@ use Rattle.std.proofs.lemmas.Bool.{cases_lt}
 use Rattle.std.proofs.lemmas.Int.{ints}
 use Rattle.json_model.specs.Decimal.{HasNarrowDigits}
 use Rattle.json_exact.specs.Exact.{parts}
-use Rattle.json_exact.specs.Digits.{prefix}
+use Rattle.json_exact.specs.Digits.{joined}
 use Rattle.json_exact.specs.DecimalGroups.{IsScaled}
 use Rattle.json_exact.proofs.DigitLaws.{factor_last}
 use Rattle.json_exact.proofs.GroupLaws.{fours}
 use Rattle.json_exact.proofs.NarrowLaws.{narrow_more, narrow_back}
 use Rattle.json_exact.specs.DecimalFields.{parts_of, IsFields}
 use Rattle.json_exact.specs.declared.decimal.Decimal.TheInside.{Inside}
-use Rattle.json_exact.proofs.GroupPlaceLaws.{up_to, zero_is}
+use Rattle.json_exact.proofs.GroupPlaceLaws.{up_to, zero_is, take_joined}
 use Rattle.json_exact.proofs.WholeLaws.{sized, AreZeros}
-use Rattle.std.proofs.Common.{drop}
+use Rattle.std.proofs.Common.{length, take, drop}
 
 -- more digits do not make less
-pub prefix_mono : (b : ℕ) (ds : List ℕ) (i j : ℕ) → 0 < b → i ≤ j → prefix b ds i ≤ prefix b ds j
-prefix_mono b ds i zero some le = (let e : i ≡ 0 = omega arith in rw e (omega arith))
-prefix_mono b ds i (suc j) some le = elim (cases_lt i (suc j)) [
-  | inl lt ↦ let h = prefix_mono b ds i j some (omega arith) in let m = at_least (prefix b ds j) b some in omega arith
+pub take_mono : (b : ℕ) (ds : List ℕ) (i j : ℕ) → 0 < b → i ≤ j → j ≤ length ds → joined b (take i ds) ≤ joined b (take j ds)
+take_mono b ds i zero some le few = (let e : i ≡ 0 = omega arith in rw e (omega arith))
+take_mono b ds i (suc j) some le few = elim (cases_lt i (suc j)) [
+  | inl lt ↦
+      let h = take_mono b ds i j some (omega arith) (omega arith) in
+      let s = take_joined b j ds (omega arith) in
+      let m = at_least (joined b (take j ds)) b some in
+      omega arith
   | inr ge ↦ (let e : i ≡ suc j = omega arith in rw e (omega arith))
 ]
   where
@@ -77,17 +81,19 @@ pub record Made (q m z t : ℕ) : Type 0 where
 
 pub made : (a : Inside) (d : ℤ) (last digits zeros scale : ℕ) → IsFields a → parts_of a ≡ d → last < 11 → 0 < get_or a.groups last 0 → AreZeros (drop (suc last) a.groups)
     → get_or a.groups last 0 ≡ digits * 10 ^ zeros → scale * 10 ^ zeros ≡ 10000 → scale % 10 ≡ 0 → 0 < digits % 10
-    → Made (nat_abs d) (prefix 10000 a.groups last * scale + digits) zeros (a.top - 1 - last)
+    → Made (nat_abs d) (joined 10000 (take last a.groups) * scale + digits) zeros (a.top - 1 - last)
 made a d last digits zeros scale h e lt some none group full round end =
     let (q, s) = sized a d h e in
     let u = up_to a.groups a.top (q * 10) last s.keeps lt some none in
-    let m = prefix 10000 a.groups last * scale + digits in
+    let m = joined 10000 (take last a.groups) * scale + digits in
+    let few : last < length a.groups = (let c = s.keeps.count in omega arith) in
     let t = a.top - 1 - last in
     let i : a.top - suc last ≡ t = omega arith in
     let moved : q * 10 ≡ m * 10 ^ zeros * 10000 ^ t =
-    u.exact ∙ ap (λ (k : ℕ). prefix 10000 a.groups (suc last) * 10000 ^ k) i
-    ∙ ap (λ (x : ℕ). x * 10000 ^ t) (sym (mantissa_is (prefix 10000 a.groups last) (get_or a.groups last 0) digits zeros scale group full)) in
-    let ends = mantissa_last (prefix 10000 a.groups last) digits scale round end in
+    u.exact ∙ ap (λ (k : ℕ). joined 10000 (take (suc last) a.groups) * 10000 ^ k) i
+    ∙ ap (λ (x : ℕ). x * 10000 ^ t)
+    (take_joined 10000 last a.groups few ∙ sym (mantissa_is (joined 10000 (take last a.groups)) (get_or a.groups last 0) digits zeros scale group full)) in
+    let ends = mantissa_last (joined 10000 (take last a.groups)) digits scale round end in
     let narrow : HasNarrowDigits (m * 10 ^ (zeros + 4 * t)) = subst HasNarrowDigits
     (moved ∙ ap (λ (x : ℕ). m * 10 ^ zeros * x) (fours t) ∙ factor_last m (10 ^ zeros) (10 ^ (4 * t)) ∙ ap (λ (x : ℕ). m * x) (sym (pow-add 10 zeros (4 * t)))) (narrow_more q 1 s.narrow) in
     record {

@@ -1,5 +1,5 @@
 -- The number that digits make in a base, and the digits of a number: positional notation, the highest digit first.
-use Rattle.std.specs.Prelude.{ℕ, zero, suc, ◌+◌, ◌*◌, ◌/◌, ◌%◌, ◌^◌, ◌<◌, true, false, ◌==◌, List, [], ◌∷◌, length, get_or}
+use Rattle.std.specs.Prelude.{ℕ, zero, suc, ◌+◌, ◌*◌, ◌/◌, ◌%◌, ◌^◌, ◌<◌, true, false, ◌==◌, List, [], ◌∷◌, length}
 
 abbrev pub joined : ℕ → List ℕ → ℕ
 joined b [] = 0
@@ -9,11 +9,6 @@ joined b (d ∷ ds) = d * b ^ length ds + joined b ds
 abbrev pub AllBelow : ℕ → List ℕ → Type 0
 AllBelow b [] = Unit {0}
 AllBelow b (d ∷ ds) = (d < b) × AllBelow b ds
-
--- the number that the first k digits make
-abbrev pub prefix : ℕ → List ℕ → ℕ → ℕ
-prefix b ds zero = 0
-prefix b ds (suc k) = prefix b ds k * b + get_or ds k 0
 
 -- the last `n` digits of a number that has no more, zeros in front
 abbrev pub spread : ℕ → ℕ → ℕ → List ℕ

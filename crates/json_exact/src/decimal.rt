@@ -1,6 +1,6 @@
 //! `Decimal`: an exact decimal of at most 38 digits, kept in groups of four.
 
-ghost use Rattle.std.specs.Prelude.{ℕ, suc, ◌+◌, ◌-◌, ◌*◌, ◌/◌, ◌%◌, ◌^◌, ◌≤◌, ◌<◌, ◌≡◌, ◌↔◌, pos, ◌+ℤ◌, ◌*ℤ◌, ◌<ℤ◌, nat_abs, int_lt, false, length, MatchOption, IfSome, IsTrue};
+ghost use Rattle.std.specs.Prelude.{ℕ, suc, ◌+◌, ◌-◌, ◌*◌, ◌/◌, ◌%◌, ◌^◌, ◌≤◌, ◌<◌, ◌≡◌, ◌↔◌, pos, ◌+ℤ◌, ◌*ℤ◌, ◌<ℤ◌, nat_abs, int_lt, false, length, get_or, MatchOption, IfSome, IsTrue};
 ghost use Rattle.std.specs.Ordering.{nat_cmp};
 ghost use Rattle.json_model.specs.Decimal.{HasNarrowDigits, IsWhole};
 ghost use Rattle.json_exact.specs.DecimalGroups.{group, IsGreatestPlace, IsLeastPlace, IsScaled};
@@ -11,7 +11,8 @@ ghost use Rattle.json_exact.specs.SignificantDigits.{Holds};
 ghost use Rattle.json_exact.specs.SignificantGroups.{HoldsGroups};
 
 use crate::group::{
-    digit_of_group, digits_behind_first, ends_in_zeros, last_index, number_of, without_zeros,
+    compare_groups, digit_of_group, digits_behind_first, ends_in_zeros, last_index, number_of,
+    without_zeros,
 };
 use crate::regrouping::regrouped;
 use crate::significant_digits::SignificantDigits;
@@ -24,6 +25,9 @@ pub(crate) const FRACTION_DIGITS: u32 = 16_383;
 
 /// How many groups stand behind the point where all fraction digits of a `Decimal` are written, and one more digit, which is 0.
 const FRACTION_GROUPS: u16 = 4_096;
+
+/// How many groups never have more than 38 digits.
+const FEW_GROUPS: usize = 9;
 
 /// An exact decimal: at most 38 digits from the first to the last that is not 0, of a magnitude below 10^131072, and
 /// written exactly by 16,383 fraction digits. `==` and `<` compare values. Zero has no sign.
@@ -80,6 +84,47 @@ fn groups_of(bytes: &[u8]) -> SignificantGroups
     groups
 }
 
+/// The group at an index of those that bytes hold, or 0 where there is none.
+#[inline(always)]
+fn group_or_zero(bytes: &[u8], index: usize) -> u16
+    requires groups { AreGroups bytes.now }
+    ensures { result ≡ get_or (groups_of bytes.now) index 0 }
+{
+    if index >= bytes.len() / 2 {
+        return 0;
+    }
+    bytes[2 * index] as u16 + 256 * bytes[2 * index + 1] as u16
+}
+
+/// The groups that bytes hold, of which the first is not 0. They are few, so they are read by constant indexes.
+#[inline(always)]
+fn few_groups(bytes: &[u8]) -> SignificantGroups
+    requires groups { AreGroups bytes.now }
+    requires few { length bytes.now / 2 ≤ 9 }
+    requires first { 0 < get_or (groups_of bytes.now) 0 0 }
+    ensures len { result.len ≡ length bytes.now / 2 }
+    ensures kept { result.too_wide ≡ false }
+    ensures holds { HoldsGroups result (joined 10000 (groups_of bytes.now)) }
+{
+    SignificantGroups {
+        groups: [
+            group_or_zero(bytes, 0),
+            group_or_zero(bytes, 1),
+            group_or_zero(bytes, 2),
+            group_or_zero(bytes, 3),
+            group_or_zero(bytes, 4),
+            group_or_zero(bytes, 5),
+            group_or_zero(bytes, 6),
+            group_or_zero(bytes, 7),
+            group_or_zero(bytes, 8),
+            group_or_zero(bytes, 9),
+            group_or_zero(bytes, 10),
+        ],
+        len: bytes.len() as u64 / 2,
+        too_wide: false,
+    }
+}
+
 /// The place that counts from the point, of one that counts from the last of the `FRACTION_GROUPS`.
 fn place_of(lifted: u16) -> i32
     ensures { result +ℤ pos 4096 ≡ pos lifted }
@@ -113,6 +158,7 @@ fn lifted(weight: i16) -> u16
 impl Decimal {
     /// The decimal whose magnitude, in units of the last digit of its `FRACTION_GROUPS`, is the number that `groups` holds
     /// times 10000^`up` divided by 10000^`down`.
+    #[inline(always)]
     fn from_significant(negative: bool, groups: SignificantGroups, up: u64, down: u64) -> Decimal
         requires down { down < 2 ^ 63 }
         requires kept { groups.too_wide ≡ false }
@@ -162,7 +208,26 @@ impl Decimal {
     ///
     /// `None` where the sum has more than 38 digits from the first to the last that is not 0. The shortest `groups` that
     /// give it are ten, as 100, eight times 0, and 1. The caller knows that 16,383 fraction digits write the sum exactly.
+    #[inline(always)]
     pub fn from_groups(negative: bool, weight: i16, groups: &[u8]) -> Option<Decimal>
+        requires groups { AreGroups groups.now }
+        requires exact { (q : ℕ) × AreWorth weight (groups_of groups.now) q }
+        ensures value { (q : ℕ) → AreWorth weight (groups_of groups.now) q →
+            MatchOption result (¬ HasNarrowDigits q) (λ d. d ≡ signed negative q) }
+        ensures limits { IfSome result (λ d. IsWithinLimits d) }
+    {
+        let count = groups.len() / 2;
+        if count > FEW_GROUPS || group_or_zero(groups, 0) == 0 {
+            return Decimal::from_many_groups(negative, weight, groups);
+        }
+        let kept = few_groups(groups);
+        let up = lifted(weight) as u64 + 1 + FRACTION_GROUPS as u64;
+        Some(Decimal::from_significant(negative, kept, up, count as u64 + 0x8000))
+    }
+
+    /// What `from_groups` does, of groups of any number, with zeros in front or not.
+    #[inline(never)]
+    fn from_many_groups(negative: bool, weight: i16, groups: &[u8]) -> Option<Decimal>
         requires groups { AreGroups groups.now }
         requires exact { (q : ℕ) × AreWorth weight (groups_of groups.now) q }
         ensures value { (q : ℕ) → AreWorth weight (groups_of groups.now) q →
@@ -197,13 +262,14 @@ impl Decimal {
     }
 
     /// The order of the two magnitudes. A magnitude of more groups is larger, since its first group is not 0.
+    #[inline(always)]
     fn compare_magnitudes(&self, other: &Decimal) -> Ordering
         ensures { result ≡ nat_cmp (nat_abs self.now) (nat_abs other.now) }
     {
         if self.top != other.top {
             return self.top.cmp(&other.top);
         }
-        self.groups.cmp(&other.groups)
+        compare_groups(&self.groups, &other.groups)
     }
 
     /// Whether the value is whole, as that of `1.0` is.
@@ -356,6 +422,7 @@ impl Ord for Decimal {
 
     ghost matches_eq = { Prim.search (comparing, rules) };
 
+    #[inline(always)]
     fn cmp(&self, other: &Decimal) -> Ordering {
         match (self.negative, other.negative) {
             (false, false) => self.compare_magnitudes(other),
@@ -377,6 +444,7 @@ impl PartialOrd for Decimal {
 
     ghost laws = { partial_order_from_own_ties (Prim.search (comparing, rules)) (Prim.search (comparing, rules)) };
 
+    #[inline(always)]
     fn partial_cmp(&self, other: &Decimal) -> Option<Ordering> {
         Some(self.cmp(other))
     }

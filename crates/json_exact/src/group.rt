@@ -1,7 +1,11 @@
 //! Groups of four digits, each by itself and eleven in a row.
 
-ghost use Rattle.std.specs.Prelude.{ℕ, suc, ◌+◌, ◌*◌, ◌/◌, ◌%◌, ◌^◌, ◌<◌, ◌≤◌, ◌≡◌, ◌↔◌, get_or, drop, All, IsTrue};
-ghost use Rattle.json_exact.specs.Digits.{prefix, AllBelow};
+ghost use Rattle.std.specs.Prelude.{ℕ, suc, ◌+◌, ◌*◌, ◌/◌, ◌%◌, ◌^◌, ◌<◌, ◌≤◌, ◌≡◌, ◌↔◌, get_or, take, drop, All, IsTrue};
+ghost use Rattle.std.specs.Cmp.Lexicographic.{slice_cmp};
+ghost use Rattle.std.specs.Ordering.{nat_cmp};
+ghost use Rattle.json_exact.specs.Digits.{joined};
+
+use std::cmp::Ordering;
 
 /// Whether all groups from an index on are 0.
 pub fn ends_in_zeros(groups: &[u16], index: usize) -> bool
@@ -110,11 +114,33 @@ pub fn last_index(groups: &[u16; 11]) -> usize
     0
 }
 
+/// Four groups as one number, of 16 bits each.
+#[inline(always)]
+fn word_of(groups: [u16; 4]) -> u64
+    ensures { result ≡ joined 65536 groups }
+{
+    ((groups[0] as u64 * 65536 + groups[1] as u64) * 65536 + groups[2] as u64) * 65536
+        + groups[3] as u64
+}
+
+/// The order of the first groups that differ. They are compared as words, so that none is read from memory by its index.
+#[inline(always)]
+pub fn compare_groups(left: &[u16; 11], right: &[u16; 11]) -> Ordering
+    ensures { result ≡ slice_cmp nat_cmp left.now right.now }
+{
+    let [a, b, c, d, e, f, g, h, i, j, k] = *left;
+    let [m, n, o, p, q, r, s, t, u, v, w] = *right;
+    word_of([a, b, c, d])
+        .cmp(&word_of([m, n, o, p]))
+        .then(word_of([e, f, g, h]).cmp(&word_of([q, r, s, t])))
+        .then(word_of([0, i, j, k]).cmp(&word_of([0, u, v, w])))
+}
+
 /// The number that the first `count` groups make.
 pub fn number_of(groups: &[u16; 11], count: usize) -> u128
     requires count { count ≤ 11 }
-    requires few { prefix 10000 groups.now count < 2 ^ 128 }
-    ensures { result ≡ prefix 10000 groups.now count }
+    requires few { joined 10000 (take count groups.now) < 2 ^ 128 }
+    ensures { result ≡ joined 10000 (take count groups.now) }
 {
     let mut number = 0u128;
     for index in 0..count {

@@ -127,7 +127,8 @@ mutual
   same_chain (object ms) (object ns) (object os) e f g s r =
       (s.0 ∙ r.0, all_found ms os e.0 (places_chain ms ns os e.1 f.1 g.1 (same_places ms ns e.0 f.0 s.0 s.1) (same_places ns os f.0 g.0 r.0 r.1)))
 
-  elements_chain : (ts us vs : Elements) → KeysRiseInElements ts → KeysRiseInElements us → KeysRiseInElements vs → SameElements ts us → SameElements us vs → SameElements ts vs
+  elements_chain : (ts us vs : Elements) → KeysRiseInElements ts → KeysRiseInElements us → KeysRiseInElements vs → SameElements ts us →
+      SameElements us vs → SameElements ts vs
   elements_chain no_elements no_elements vs e f g s r = r
   elements_chain no_elements (element u us) vs e f g s r = absurd s
   elements_chain (element t ts) no_elements vs e f g s r = absurd s
@@ -135,7 +136,8 @@ mutual
   elements_chain (element t ts) (element u us) (element v vs) e f g s r =
       (same_chain t u v e.0 f.0 g.0 s.0 r.0, elements_chain ts us vs e.1 f.1 g.1 s.1 r.1)
 
-  places_chain : (ms ns os : Members) → KeysRiseInMembers ms → KeysRiseInMembers ns → KeysRiseInMembers os → SameAtPlaces ms ns → SameAtPlaces ns os → SameAtPlaces ms os
+  places_chain : (ms ns os : Members) → KeysRiseInMembers ms → KeysRiseInMembers ns → KeysRiseInMembers os → SameAtPlaces ms ns → SameAtPlaces ns os →
+      SameAtPlaces ms os
   places_chain no_members no_members os e f g s r = r
   places_chain no_members (member l u ns) os e f g s r = absurd s
   places_chain (member k t ms) no_members os e f g s r = absurd s

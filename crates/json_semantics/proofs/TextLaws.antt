@@ -15,7 +15,8 @@ tree_string : (s : String Global) → tree (V.String s) ≡ scalar (string (stri
 tree_string s = search (rules, the_lemmas)
 
 -- the bytes that begin a code point are as many as the code points of a string value
-pub points_counted : (x : Value) (s : String Global) (bytes : List ℕ) (n : ℕ) → x ≡ V.String s → bytes ≡ string_bytes s → IsUtf8 bytes → n ≡ count_by begins_char bytes
+pub points_counted : (x : Value) (s : String Global) (bytes : List ℕ) (n : ℕ) → x ≡ V.String s → bytes ≡ string_bytes s → IsUtf8 bytes → n
+    ≡ count_by begins_char bytes
     → Some n ≡ option_map (λ (b : List ℕ). length (points b)) (as_string (tree x))
 points_counted x s bytes n e f u g =
     ap (λ (k : ℕ). Some k) (g ∙ text_begins bytes u ∙ ap (λ (b : List ℕ). length (points b)) f)

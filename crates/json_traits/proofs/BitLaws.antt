@@ -16,7 +16,8 @@ bit_lt n i = mod-lt (n / 2 ^ i) (zero-lt-suc 1)
 
 two_bits : (P : ℕ → ℕ → Type 0) → P 0 0 → P 0 1 → P 1 0 → P 1 1 → (a b i : ℕ) → P (bit_at a i) (bit_at b i)
 two_bits P p q r s a b i =
-    bit_cases (λ x. P x (bit_at b i)) (bit_cases (P 0) p q (bit_at b i) (bit_lt b i)) (bit_cases (P 1) r s (bit_at b i) (bit_lt b i)) (bit_at a i) (bit_lt a i)
+    bit_cases (λ x. P x (bit_at b i)) (bit_cases (P 0) p q (bit_at b i) (bit_lt b i)) (bit_cases (P 1) r s (bit_at b i) (bit_lt b i)) (bit_at a i)
+    (bit_lt a i)
 
 and_at : (a b i : ℕ) → nat_eq (bit_at (bit_and a b) i) 1 ≡ nat_eq (bit_at a i) 1 && nat_eq (bit_at b i) 1
 and_at a b i = ap (λ n. nat_eq n 1) (bit_at_and a b i) ∙ two_bits (λ x y. nat_eq (min x y) 1 ≡ nat_eq x 1 && nat_eq y 1) refl refl refl refl a b i

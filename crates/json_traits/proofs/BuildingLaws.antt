@@ -10,7 +10,8 @@ use Rattle.json_exact.proofs.TreeLaws.{tree-array, tree-object}
 use Rattle.json_traits.proofs.ShapeLaws.{array_shape, object_shape}
 
 -- one more value is built
-pub built_more : (vs ws : List Value) (v : Value) (ts : List Tree) (k : ℕ) (t : Tree) → ws ≡ vs ++ v ∷ [] → map value_tree vs ≡ take k ts → value_tree v ≡ t
+pub built_more : (vs ws : List Value) (v : Value) (ts : List Tree) (k : ℕ) (t : Tree) → ws ≡ vs ++ v ∷ [] → map value_tree vs ≡ take k ts →
+    value_tree v ≡ t
     → take (k + 1) ts ≡ take k ts ++ t ∷ [] → map value_tree ws ≡ take (k + 1) ts
 built_more vs ws v ts k t e f h front =
     ap (map value_tree) e

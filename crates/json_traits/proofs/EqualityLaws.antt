@@ -40,7 +40,8 @@ same_object t u v e = (
 )
 
 -- objects that are the same have as many members
-pub same_members : (t u : Tree) (qs : List (List ℕ × Tree)) → Some t ≡ if_object u → Same u (object (members_from qs)) → length (pairs_of t) ≡ length qs
+pub same_members : (t u : Tree) (qs : List (List ℕ × Tree)) → Some t ≡ if_object u → Same u (object (members_from qs)) → length (pairs_of t)
+    ≡ length qs
 same_members t u qs e h =
     let s = (same_object t u (object (members_from qs)) e).1 h in
     ap (λ (w : Tree). length (pairs_of w)) (if_object_is u e)
@@ -56,7 +57,8 @@ same_count (v ∷ vs) [] s = absurd s
 same_count (v ∷ vs) (w ∷ ws) s = ap suc (same_count vs ws s.1)
 
 -- the trees of values, at a place
-pub tree_leads : (vs : List Value) (i : ℕ) (v : Value) → i < length vs → v ≡ get_or vs i v → drop i (map value_tree vs) ≡ value_tree v ∷ drop (i + 1) (map value_tree vs)
+pub tree_leads : (vs : List Value) (i : ℕ) (v : Value) → i < length vs → v ≡ get_or vs i v → drop i (map value_tree vs)
+    ≡ value_tree v ∷ drop (i + 1) (map value_tree vs)
 tree_leads vs i v lt e =
     leads (map value_tree vs) i (value_tree v) (omega (arith, length-map vs value_tree)) (ap value_tree e ∙ sym (get_or-map value_tree vs i v))
 
@@ -66,10 +68,13 @@ Decide ts us i = SameElements (elements_from (drop i ts)) (elements_from (drop i
 
 module _ (ts us : List Tree) (i : ℕ) (left : Decide ts us i) where
   module _ (t u : Tree) (e : drop i ts ≡ t ∷ drop (i + 1) ts) (f : drop i us ≡ u ∷ drop (i + 1) us) where
-    split : SameElements (elements_from (t ∷ drop (i + 1) ts)) (elements_from (u ∷ drop (i + 1) us)) ↔ SameElements (elements_from ts) (elements_from us)
+    split : SameElements (elements_from (t ∷ drop (i + 1) ts)) (elements_from (u ∷ drop (i + 1) us)) ↔
+        SameElements (elements_from ts) (elements_from us)
     split =
-        subst (λ (xs : List Tree). SameElements (elements_from xs) (elements_from (u ∷ drop (i + 1) us)) ↔ SameElements (elements_from ts) (elements_from us)) e
-        (subst (λ (xs : List Tree). SameElements (elements_from (drop i ts)) (elements_from xs) ↔ SameElements (elements_from ts) (elements_from us)) f left)
+        subst (λ (xs : List Tree). SameElements (elements_from xs) (elements_from (u ∷ drop (i + 1) us)) ↔
+        SameElements (elements_from ts) (elements_from us)) e
+        (subst (λ (xs : List Tree). SameElements (elements_from (drop i ts)) (elements_from xs) ↔ SameElements (elements_from ts) (elements_from us))
+        f left)
 
     -- the next two are the same, so what is left without them decides
     pub next_same : Same t u → Decide ts us (i + 1)

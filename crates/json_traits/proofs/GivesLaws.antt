@@ -13,11 +13,13 @@ pub record AtItem {B : Type 0} (ys : List B) (k : ℕ) (y : B) : Type 0 where
   pub back : drop k ys ≡ y ∷ drop (k + 1) ys
 
 -- the list begins with y, and goes on with what s gives
-at_cons : {S A B : Type 0} (steps : S → Option A → S → Type 0) (v : A → B) (s j : S) (x : A) (ys : List B) → AlwaysYields steps v s ys → steps s (Some x) j → (rest : List B) × (ys ≡ v x ∷ rest) × AlwaysYields steps v j rest
+at_cons : {S A B : Type 0} (steps : S → Option A → S → Type 0) (v : A → B) (s j : S) (x : A) (ys : List B) → AlwaysYields steps v s ys →
+    steps s (Some x) j → (rest : List B) × (ys ≡ v x ∷ rest) × AlwaysYields steps v j rest
 at_cons steps v s j x [] h e = absurd (h x j e)
 at_cons steps v s j x (y ∷ ys) h e = (ys, rw (h.1 x j e).0 refl, (h.1 x j e).1)
 
-at_nil : {S A B : Type 0} (steps : S → Option A → S → Type 0) (v : A → B) (s u : S) (ys : List B) → AlwaysYields steps v s ys → steps s None u → ys ≡ []
+at_nil : {S A B : Type 0} (steps : S → Option A → S → Type 0) (v : A → B) (s u : S) (ys : List B) → AlwaysYields steps v s ys → steps s None u → ys
+    ≡ []
 at_nil steps v s u [] h e = refl
 at_nil steps v s u (y ∷ ys) h e = absurd (h.0 u e)
 
@@ -38,7 +40,8 @@ module _ {S A B : Type 0} {steps : S → Option A → S → Type 0} {v : A → B
   left_end {u = u} ys k h e = omega (arith, length-drop k ys, ap length (at_nil steps v s u (drop k ys) h.always e))
 
   -- an item is the next of the list, and the rest is left
-  pub left_item : {j : S} {x : A} (ys : List B) (k : ℕ) → Gives steps v s (drop k ys) → steps s (Some x) j → AtItem ys k (v x) × Gives steps v j (drop (k + 1) ys)
+  pub left_item : {j : S} {x : A} (ys : List B) (k : ℕ) → Gives steps v s (drop k ys) → steps s (Some x) j → AtItem ys k (v x)
+      × Gives steps v j (drop (k + 1) ys)
   left_item {j = j} {x = x} ys k h e =
       let r = at_cons steps v s j x (drop k ys) h.always e in
       let a = at_head ys k (v x) r.0 r.1 in
@@ -56,7 +59,8 @@ module _ {S A B : Type 0} (view : A → B) (rest : S → List B) where
   module _ {C : Type 0} (f : B → C) (g : A → C) (same : (x : A) → g x ≡ f (view x)) where
     always_through : (ys : List B) (s : S) → rest s ≡ ys → AlwaysYields (YieldsFirstBy view rest) g s (map f ys)
     always_through [] s e = λ x j h. cc
-    always_through (y ∷ ys) s e = (λ j h. cc, λ x j h. let k : view x ≡ y = cc in let t : rest j ≡ ys = cc in (same x ∙ ap f k, always_through ys j t))
+    always_through (y ∷ ys) s e =
+        (λ j h. cc, λ x j h. let k : view x ≡ y = cc in let t : rest j ≡ ys = cc in (same x ∙ ap f k, always_through ys j t))
 
     -- and so it gives what is made of each of them
     pub gives_through : (s : S) → Gives (YieldsFirstBy view rest) g s (map f (rest s))

@@ -6,7 +6,8 @@ use Rattle.json_traits.specs.Weights.{same, all_types}
 use Rattle.json_traits.specs.Sets.{first_of}
 
 -- without the first of them, the others are left
-pub rest_is : (f g : JsonType → Bool) (t : JsonType) → ((u : JsonType) → g u ≡ f u && not (same u t)) → Some t ≡ first_of (filter f all_types) → filter f all_types ≡ t ∷ filter g all_types
+pub rest_is : (f g : JsonType → Bool) (t : JsonType) → ((u : JsonType) → g u ≡ f u && not (same u t)) → Some t ≡ first_of (filter f all_types) →
+    filter f all_types ≡ t ∷ filter g all_types
 rest_is f g t h e = grind arith
 
 pub none_left : (f : JsonType → Bool) → None ≡ first_of (filter f all_types) → filter f all_types ≡ []

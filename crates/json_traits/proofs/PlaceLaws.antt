@@ -60,17 +60,20 @@ rest_found : (k l : List ℕ) (t u : Tree) (ns : Members) → (k ≡ l → ⊥) 
 rest_found k l t u ns e h = subst (λ (b : Bool). IsSomeAnd (if b then Some u else lookup k (pairs_in ns)) (λ w. Same t w)) (sym (other_key k l e)) h
 
 -- keys that come after another are found among the rest
-after_first : (l : List ℕ) (u : Tree) (ms ns : Members) → AllByRecursion (λ z. key_before l z ≡ true) (keys ms) → SameMembers ms (member l u ns) → SameMembers ms ns
+after_first : (l : List ℕ) (u : Tree) (ms ns : Members) → AllByRecursion (λ z. key_before l z ≡ true) (keys ms) → SameMembers ms (member l u ns) →
+    SameMembers ms ns
 after_first l u no_members ns h s = tt
 after_first l u (member k t ms) ns h s = (found_rest k l t u ns (λ e. not_before l k h.0 (sym e)) s.0, after_first l u ms ns h.1 s.1)
 
 -- and what is found among the rest is found behind a key before it
-before_rest : (l : List ℕ) (u : Tree) (ms ns : Members) → AllByRecursion (λ z. key_before l z ≡ true) (keys ms) → SameMembers ms ns → SameMembers ms (member l u ns)
+before_rest : (l : List ℕ) (u : Tree) (ms ns : Members) → AllByRecursion (λ z. key_before l z ≡ true) (keys ms) → SameMembers ms ns →
+    SameMembers ms (member l u ns)
 before_rest l u no_members ns h s = tt
 before_rest l u (member k t ms) ns h s = (rest_found k l t u ns (λ e. not_before l k h.0 (sym e)) s.0, before_rest l u ms ns h.1 s.1)
 
 -- a key before the first of keys that rise is before all of them
-before_rising : (k l : List ℕ) (ks : List (List ℕ)) → key_before k l ≡ true → rises (l ∷ ks) ≡ true → AllByRecursion (λ z. key_before k z ≡ true) (l ∷ ks)
+before_rising : (k l : List ℕ) (ks : List (List ℕ)) → key_before k l ≡ true → rises (l ∷ ks) ≡ true →
+    AllByRecursion (λ z. key_before k z ≡ true) (l ∷ ks)
 before_rising k l ks b e = let h : rises (k ∷ l ∷ ks) ≡ true = rw (b, e) refl in rises_all k (l ∷ ks) h
 
 -- keys that rise and are all found are no more than those that they are found among
@@ -91,7 +94,8 @@ no_more (member k t ms) (member l u ns) e f s = elim (key_total k l) [
 ]
 
 -- as many members, each found among the others, are the same at each place
-pub same_places : (ms ns : Members) → rises (keys ms) ≡ true → rises (keys ns) ≡ true → length (pairs_in ms) ≡ length (pairs_in ns) → SameMembers ms ns → SameAtPlaces ms ns
+pub same_places : (ms ns : Members) → rises (keys ms) ≡ true → rises (keys ns) ≡ true → length (pairs_in ms) ≡ length (pairs_in ns) →
+    SameMembers ms ns → SameAtPlaces ms ns
 same_places no_members no_members e f n s = tt
 same_places no_members (member l u ns) e f n s = absurd (omega arith)
 same_places (member k t ms) no_members e f n s = absurd s.0
@@ -131,7 +135,8 @@ pub place_by_place : (ms ns : Members) → rises (keys ms) ≡ true → rises (k
 place_by_place ms ns e f = (λ h. same_places ms ns e f h.0 h.1, λ p. (same_count ms ns p, all_found ms ns e p))
 
 -- of pairs whose keys rise
-pub pairs_by_place : (ps qs : List (List ℕ × Tree)) → rises (map (λ (p : List ℕ × Tree). p.0) ps) ≡ true → rises (map (λ (q : List ℕ × Tree). q.0) qs) ≡ true
+pub pairs_by_place : (ps qs : List (List ℕ × Tree)) → rises (map (λ (p : List ℕ × Tree). p.0) ps) ≡ true → rises (map (λ (q : List ℕ × Tree). q.0) qs)
+    ≡ true
     → Same (object (members_from ps)) (object (members_from qs)) ↔ SameAtPlaces (members_from ps) (members_from qs)
 pairs_by_place ps qs e f = place_by_place (members_from ps) (members_from qs) (ap rises (keys_from ps) ∙ e) (ap rises (keys_from qs) ∙ f)
 

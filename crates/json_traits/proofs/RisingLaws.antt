@@ -26,7 +26,8 @@ object_rises t u e h = subst KeysRise (sym (object_shape t u e)) h
 
 module _ (ts : List Tree) (k : ℕ) (left : KeysRiseInElements (elements_from (drop k ts)) → KeysRiseInElements (elements_from ts)) where
   -- the next element rises, so what is left without it is all that is wanted
-  pub next_element : (t : Tree) → drop k ts ≡ t ∷ drop (k + 1) ts → KeysRise t → KeysRiseInElements (elements_from (drop (k + 1) ts)) → KeysRiseInElements (elements_from ts)
+  pub next_element : (t : Tree) → drop k ts ≡ t ∷ drop (k + 1) ts → KeysRise t → KeysRiseInElements (elements_from (drop (k + 1) ts)) →
+      KeysRiseInElements (elements_from ts)
   next_element t back h r = left (subst (λ (xs : List Tree). KeysRiseInElements (elements_from xs)) (sym back) (h, r))
 
   pub no_element : length ts ≤ k → KeysRiseInElements (elements_from ts)
@@ -34,8 +35,10 @@ module _ (ts : List Tree) (k : ℕ) (left : KeysRiseInElements (elements_from (d
 
 module _ (ps : List (List ℕ × Tree)) (k : ℕ) (left : KeysRiseInMembers (members_from (drop k ps)) → KeysRiseInMembers (members_from ps)) where
   -- the next member's value rises, so what is left without it is all that is wanted
-  pub next_member : (p : List ℕ × Tree) → drop k ps ≡ p ∷ drop (k + 1) ps → KeysRise p.1 → KeysRiseInMembers (members_from (drop (k + 1) ps)) → KeysRiseInMembers (members_from ps)
+  pub next_member : (p : List ℕ × Tree) → drop k ps ≡ p ∷ drop (k + 1) ps → KeysRise p.1 → KeysRiseInMembers (members_from (drop (k + 1) ps)) →
+      KeysRiseInMembers (members_from ps)
   next_member p back h r = left (subst (λ (xs : List (List ℕ × Tree)). KeysRiseInMembers (members_from xs)) (sym back) (h, r))
 
   pub no_member : length ps ≤ k → rises (map (λ (p : List ℕ × Tree). p.0) ps) ≡ true → KeysRise (object (members_from ps))
-  no_member le e = (ap rises (keys_from ps) ∙ e, left (subst (λ (xs : List (List ℕ × Tree)). KeysRiseInMembers (members_from xs)) (sym (drop_all k ps le)) tt))
+  no_member le e =
+      (ap rises (keys_from ps) ∙ e, left (subst (λ (xs : List (List ℕ × Tree)). KeysRiseInMembers (members_from xs)) (sym (drop_all k ps le)) tt))

@@ -14,7 +14,8 @@ unfolding lib.IntN.one
 value_as_written d z w f = same_as_written d (z *ℤ pos parts) w (whole z) f (*ℤ-one (z *ℤ pos parts))
 
 -- a call that tells whether a decimal is z tells whether the value of the tree is
-pub told_of_tree : {P : Type 0} (d z : ℤ) (w : Decimal) (t : Tree) → t ≡ scalar (number w) → IsWorth d w → P ↔ (d ≡ z *ℤ pos parts) → P ↔ IsValue z (decimal_in t)
+pub told_of_tree : {P : Type 0} (d z : ℤ) (w : Decimal) (t : Tree) → t ≡ scalar (number w) → IsWorth d w → P ↔ (d ≡ z *ℤ pos parts) → P ↔
+    IsValue z (decimal_in t)
 told_of_tree {P} d z w t is f h =
     let v = value_as_written d z w f in
     subst (λ (t : Tree). P ↔ IsValue z (decimal_in t)) (sym is) (λ p. v.0 (h.0 p), λ q. h.1 (v.1 q))

@@ -30,7 +30,8 @@ leads xs i x lt e = let d = drop-cons xs i x lt in let one : i + 1 ≡ suc i = a
 -- containers nest at most so deep where each of their parts does
 pub elements_within : (m : ℕ) (ts : List Tree) → AllByRecursion (λ t. nest t ≤ m) ts ↔ (nest_elements (elements_from ts) ≤ m)
 elements_within m [] = (λ h. omega arith, λ h. tt)
-elements_within m (t ∷ ts) = let r = elements_within m ts in (λ h. let a = h.0 in let b = r.0 h.1 in omega arith, λ h. (omega arith, r.1 (omega arith)))
+elements_within m (t ∷ ts) =
+    let r = elements_within m ts in (λ h. let a = h.0 in let b = r.0 h.1 in omega arith, λ h. (omega arith, r.1 (omega arith)))
 
 pub members_within : (m : ℕ) (ps : List (List ℕ × Tree)) → AllByRecursion (λ p. nest p.1 ≤ m) ps ↔ (nest_members (members_from ps) ≤ m)
 members_within m [] = (λ h. omega arith, λ h. tt)

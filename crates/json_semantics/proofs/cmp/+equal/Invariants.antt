@@ -19,11 +19,14 @@ decreases-equal_objects l = 2 * nest_members (members_from (pairs l.left.now)) +
 
 -- what is left of both decides
 abbrev pub invariant-equal_arrays-loop-i : goal.invariant-equal_arrays-loop-i
-invariant-equal_arrays-loop-i l = SameElements (elements_from (map tree (drop l.i l.left))) (elements_from (map tree (drop l.i l.right))) ↔ SameElements (elements_from (map tree l.left)) (elements_from (map tree l.right))
+invariant-equal_arrays-loop-i l =
+    SameElements (elements_from (map tree (drop l.i l.left))) (elements_from (map tree (drop l.i l.right))) ↔
+    SameElements (elements_from (map tree l.left)) (elements_from (map tree l.right))
 
 abbrev pub invariant-equal_objects-loop-key : goal.invariant-equal_objects-loop-key
 invariant-equal_objects-loop-key l = record {
   as_many : length (left l.key-iterator) ≡ length (left l.others);
   inside : nest_members (members_from (left l.key-iterator)) ≤ nest_members (members_from (pairs l.left));
-  decides : SameAtPlaces (members_from (left l.key-iterator)) (members_from (left l.others)) ↔ SameAtPlaces (members_from (pairs l.left)) (members_from (pairs l.right));
+  decides : SameAtPlaces (members_from (left l.key-iterator)) (members_from (left l.others)) ↔
+      SameAtPlaces (members_from (pairs l.left)) (members_from (pairs l.right));
 }

@@ -30,7 +30,8 @@ build_elements-loop-element-preserved g t c =
     let ts = elements_of (g.F.Array.HasTree.tree c.args.array.now) in
     let k = length c.loop-element.yielded in
     let r = left_item {j = c.next.new.self} ts k c.loop-element.invariant.left c.in-Some.ensures.steps in
-    let built = built_more c.loop-element.values.items c.push.new.values.items c.in_ok-value.value ts k _ c.in_ok-push.ensures c.loop-element.invariant.built
+    let built = built_more c.loop-element.values.items c.push.new.values.items c.in_ok-value.value ts k _ c.in_ok-push.ensures
+    c.loop-element.invariant.built
     c.in_ok-value.ensures r.0.front in
     record {
       can = c.in-Some.ensures.goes.keeps;
@@ -84,7 +85,8 @@ build_members-returns g t c =
     let ps = pairs_of (g.F.Object.HasTree.tree c.args.object.now) in
     let k = length c.loop-member.yielded in
     let none = drop_all k ps (left_end {u = c.next.new.self} ps k c.loop-member.invariant.left c.in-None.ensures.steps) in
-    all_inside (drop k ps) (pairs c.loop-member.members) ps none c.iter-members.ensures.rise c.members-member-items.ensures.rise c.loop-member.invariant.shares
+    all_inside (drop k ps) (pairs c.loop-member.members) ps none c.iter-members.ensures.rise c.members-member-items.ensures.rise
+    c.loop-member.invariant.shares
 
 pub build-build_elements-requires : goal.build-build_elements-requires
 build-build_elements-requires g t c =
@@ -93,7 +95,8 @@ build-build_elements-requires g t c =
 
 pub build-build_members-requires : goal.build-build_members-requires
 build-build_members-requires g t c =
-    let whole = object_nests (g.F.Object.HasTree.tree c.in-Some-as_object.object) (g.F.Node.HasTree.tree c.args.node.now) c.in-Some-as_object.ensures in
+    let whole = object_nests (g.F.Object.HasTree.tree c.in-Some-as_object.object) (g.F.Node.HasTree.tree c.args.node.now) c.in-Some-as_object.ensures
+    in
     λ κs h. (omega (arith, whole, c.decreases), h)
 
 pub build-returns-in-Some : goal.build-returns-in-Some

@@ -24,7 +24,8 @@ equals_array-returns-then-element_count-expected g t c =
     let same = ap (λ (u : Tree). length (elements_of u)) (if_array_is v e) in (
       λ h. absurd cc,
       λ h. absurd (c.if-element_count-expected.true
-          (c.element_count.ensures ∙ same ∙ same_count (elements_of v) us ((same_array _ v (elements_from us) e).1 h) ∙ length-map c.args.expected.now value_tree)),
+          (c.element_count.ensures ∙ same ∙ same_count (elements_of v) us ((same_array _ v (elements_from us) e).1 h) ∙
+          length-map c.args.expected.now value_tree)),
     )
 
 pub equals_array-loop-i-init : goal.equals_array-loop-i-init
@@ -44,7 +45,8 @@ equals_array-returns-in_default-next g t c =
 
 pub equals_array-equals-requires : goal.equals_array-equals-requires
 equals_array-equals-requires g t c =
-    let inside = subst (λ (v : Value). nest (value_tree v) ≤ nest_elements (elements_from (map value_tree c.args.expected.now))) (sym c.index-expected-i.is)
+    let inside = subst (λ (v : Value). nest (value_tree v) ≤ nest_elements (elements_from (map value_tree c.args.expected.now)))
+    (sym c.index-expected-i.is)
     (element_nests c.args.expected.now c.loop-i.i c.index-expected-i.result c.loop-i-test.true) in
     λ κs h. (omega (arith, inside, c.decreases), h)
 
@@ -89,13 +91,15 @@ pub equals_object-returns-then-member_count-len : goal.equals_object-returns-the
 equals_object-returns-then-member_count-len g t c = (
   λ h. absurd cc,
   λ h. absurd (c.if-member_count-len.true
-      (c.member_count.ensures ∙ same_members _ (g.F.Node.HasTree.tree c.args.node.now) (pairs c.args.expected.now) c.in-Some.ensures h ∙ sym c.len.ensures)),
+      (c.member_count.ensures ∙ same_members _ (g.F.Node.HasTree.tree c.args.node.now) (pairs c.args.expected.now) c.in-Some.ensures h ∙
+      sym c.len.ensures)),
 )
 
 pub equals_object-loop-name-init : goal.equals_object-loop-name-init
 equals_object-loop-name-init g t c =
     let v = g.F.Node.HasTree.tree c.args.node.now in
-    let start : left c.into_iter-name-iterator.result ≡ pairs c.args.expected.now = ap left c.into_iter-name-iterator.ensures.into_iter_gives ∙ c.iter-name-items.ensures.pairs in
+    let start : left c.into_iter-name-iterator.result ≡ pairs c.args.expected.now = ap left c.into_iter-name-iterator.ensures.into_iter_gives ∙
+    c.iter-name-items.ensures.pairs in
     let many = ap length start in
     let nests = ap (λ (ps : Pairs). nest_members (members_from ps)) start in
     let same = ap (λ (u : Tree). length (pairs_of u)) (if_object_is v c.in-Some.ensures) in
@@ -105,7 +109,9 @@ equals_object-loop-name-init g t c =
           (if_object_is v c.in-Some.ensures) c.members-members.ensures.gives;
       as_many = omega (arith, many, same, c.member_count.ensures, c.if-member_count-len.false, c.len.ensures);
       inside = omega (arith, nests);
-      decides = subst (λ (ps : Pairs). SameAtPlaces (members_from (pairs_of v)) (members_from ps) ↔ SameAtPlaces (members_from (pairs_of v)) (members_from (pairs c.args.expected.now)))
+      decides =
+          subst (λ (ps : Pairs). SameAtPlaces (members_from (pairs_of v)) (members_from ps) ↔
+          SameAtPlaces (members_from (pairs_of v)) (members_from (pairs c.args.expected.now)))
           (sym start) (λ h. h, λ h. h);
     }
 
@@ -130,7 +136,8 @@ equals_object-returns-then-not-equals_member g t c =
     let qs = pairs c.args.expected.now in
     let k = length c.loop-name.yielded in
     let r = left_item {j = c.next-in-loop-name.new.self} ps k c.loop-name.invariant.gives c.in-Some-next.ensures.steps in
-    let rise = subst (λ (u : Tree). rises (map (λ (p : List ℕ × Tree). p.0) (pairs_of u)) ≡ true) (if_object_is v c.in-Some.ensures) c.members-members.ensures.rise in
+    let rise = subst (λ (u : Tree). rises (map (λ (p : List ℕ × Tree). p.0) (pairs_of u)) ≡ true) (if_object_is v c.in-Some.ensures)
+    c.members-members.ensures.rise in
     let places = pairs_by_place ps qs rise c.iter-name-items.ensures.rise in (
       λ h. absurd cc,
       λ h. absurd (first_differs _ (c.in-Some-2.name.now, value_tree c.in-Some-2.value.now) (drop k ps) (left c.loop-name.name-iterator)
@@ -166,7 +173,9 @@ equals_object-returns g t c =
     let ps = pairs_of v in
     let qs = pairs c.args.expected.now in
     let k = length c.loop-name.yielded in
-    let rise = subst (λ (u : Tree). rises (map (λ (p : List ℕ × Tree). p.0) (pairs_of u)) ≡ true) (if_object_is v c.in-Some.ensures) c.members-members.ensures.rise in
+    let rise = subst (λ (u : Tree). rises (map (λ (p : List ℕ × Tree). p.0) (pairs_of u)) ≡ true) (if_object_is v c.in-Some.ensures)
+    c.members-members.ensures.rise in
     let places = pairs_by_place ps qs rise c.iter-name-items.ensures.rise in
-    let all = c.loop-name.invariant.decides.0 (none_right (drop k ps) (left c.loop-name.name-iterator) c.in-None.ensures.steps.0 c.loop-name.invariant.as_many) in
+    let all = c.loop-name.invariant.decides.0 (none_right (drop k ps) (left c.loop-name.name-iterator) c.in-None.ensures.steps.0
+    c.loop-name.invariant.as_many) in
     (λ _. (same_object _ v (object (members_from qs)) c.in-Some.ensures).0 (places.1 all), λ _. refl)

@@ -40,5 +40,6 @@ invariant-equals_object-loop-name g l =
       gives : Gives g.F.Members.Iterator.next_gives g.F.NodeFamily.pair l.members (drop k ps);
       as_many : length (drop k ps) ≡ length (left l.name-iterator);
       inside : nest_members (members_from (left l.name-iterator)) ≤ nest_members (members_from (pairs l.expected));
-      decides : SameAtPlaces (members_from (drop k ps)) (members_from (left l.name-iterator)) ↔ SameAtPlaces (members_from ps) (members_from (pairs l.expected));
+      decides : SameAtPlaces (members_from (drop k ps)) (members_from (left l.name-iterator)) ↔
+          SameAtPlaces (members_from ps) (members_from (pairs l.expected));
     }

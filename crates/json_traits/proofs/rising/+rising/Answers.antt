@@ -67,14 +67,17 @@ keys_rise_in_members-loop-member-preserved g t c =
       can = c.in-Some.ensures.goes.keeps;
       ends = (c.in-Some.ensures.goes.on c.loop-member.invariant.ends).1;
       left = simp length-append r.1;
-      rise_on = simp length-append (next_member ps k c.loop-member.invariant.rise_on _ r.0.back (subst KeysRise c.value.ensures c.keys_rise_in_node.ensures));
+      rise_on =
+          simp length-append (next_member ps k c.loop-member.invariant.rise_on _ r.0.back
+          (subst KeysRise c.value.ensures c.keys_rise_in_node.ensures));
     }
 
 pub keys_rise_in_members-returns : goal.keys_rise_in_members-returns
 keys_rise_in_members-returns g t c =
     let ps = pairs_of (g.F.Object.HasTree.tree c.args.object.now) in
     let k = length c.loop-member.yielded in
-    no_member ps k c.loop-member.invariant.rise_on (left_end {u = c.next.new.self} ps k c.loop-member.invariant.left c.in-None.ensures.steps) c.members-member-items.ensures.rise
+    no_member ps k c.loop-member.invariant.rise_on (left_end {u = c.next.new.self} ps k c.loop-member.invariant.left c.in-None.ensures.steps)
+    c.members-member-items.ensures.rise
 
 pub keys_rise_in_node-keys_rise_in_elements-requires : goal.keys_rise_in_node-keys_rise_in_elements-requires
 keys_rise_in_node-keys_rise_in_elements-requires g t c =
@@ -83,7 +86,8 @@ keys_rise_in_node-keys_rise_in_elements-requires g t c =
 
 pub keys_rise_in_node-keys_rise_in_members-requires : goal.keys_rise_in_node-keys_rise_in_members-requires
 keys_rise_in_node-keys_rise_in_members-requires g t c =
-    let whole = object_nests (g.F.Object.HasTree.tree c.in-Some-as_object.object) (g.F.Node.HasTree.tree c.args.node.now) c.in-Some-as_object.ensures in
+    let whole = object_nests (g.F.Object.HasTree.tree c.in-Some-as_object.object) (g.F.Node.HasTree.tree c.args.node.now) c.in-Some-as_object.ensures
+    in
     λ κs h. (omega (arith, whole, c.decreases), h)
 
 pub keys_rise_in_node-returns-in-Some : goal.keys_rise_in_node-returns-in-Some

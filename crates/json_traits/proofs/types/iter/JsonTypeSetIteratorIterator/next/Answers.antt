@@ -9,5 +9,6 @@ returns-clause-steps c =
 
 pub returns-clause-goes : goal.returns-clause-goes
 returns-clause-goes c =
-    let e = rest_is (holds c.args.self.now.set) (holds c.remove-self.result) c.in_ok-ty.ty c.remove-self.ensures (sym c.in_ok-ty.was ∙ c.first.ensures) in
+    let e = rest_is (holds c.args.self.now.set) (holds c.remove-self.result) c.in_ok-ty.ty c.remove-self.ensures (sym c.in_ok-ty.was ∙
+    c.first.ensures) in
     record { on = λ _. (tt, tt, omega (arith, ap length e)); keeps = tt; rests = λ _. tt }

@@ -5,3 +5,4 @@ pub mod SpanLaws
 pub mod Widened
 pub mod PlainTokens
 pub mod ItemLaws
+pub mod BoolLaws

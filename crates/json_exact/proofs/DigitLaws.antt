@@ -3,7 +3,7 @@ use Rattle.std.proofs.Common.{◌≡◌, ℕ, zero, suc, ◌+◌, ◌-◌, ◌*�
 use Rattle.std.proofs.Math.Nat.{mul-lt-mul_of_pos_right}
 use Rattle.std.proofs.lemmas.Nat.{pow-add}
 use Rattle.std.proofs.lemmas.Bool.{cases_order}
-use Rattle.json_exact.specs.LeadingDigitsLaws.{power_pos}
+use Rattle.json_exact.specs.inner.LeadingDigitsLaws.{power_pos}
 
 pub power_mono : (b i j : ℕ) → 0 < b → i ≤ j → b ^ i ≤ b ^ j
 power_mono b i j h le =

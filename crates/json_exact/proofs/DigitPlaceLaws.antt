@@ -5,10 +5,10 @@ use Rattle.std.proofs.Math.Nat.{pow-suc, mul-lt-mul_of_pos_right, mul-le-mul_rig
 use Rattle.std.proofs.lemmas.Nat.{pow-add, mod-mul-add, div-mul-add, div-add-mod', div_below}
 use Rattle.std.proofs.lemmas.Bool.{cases_lt}
 use Rattle.json_exact.specs.Digits.{joined, AllBelow, count}
-use Rattle.json_exact.specs.LeadingDigits.{Keeps}
-use Rattle.json_exact.specs.LeadingDigitsLaws.{power_pos, joined_below, below_len, count_is, count_none}
-use Rattle.json_exact.specs.DecimalFields.{parts_of, IsFields}
-use Rattle.json_exact.specs.DecimalInverseLaws.{fields_of, fields_of-parts_of, some_parts}
+use Rattle.json_exact.specs.inner.LeadingDigits.{Keeps}
+use Rattle.json_exact.specs.inner.LeadingDigitsLaws.{power_pos, joined_below, below_len, count_is, count_none}
+use Rattle.json_exact.specs.inner.DecimalFields.{parts_of, IsFields}
+use Rattle.json_exact.specs.inner.DecimalInverseLaws.{fields_of, fields_of-parts_of, some_parts}
 use Rattle.json_exact.specs.declared.decimal.Decimal.TheInside.{Inside}
 use Rattle.json_exact.proofs.DigitLaws.{power_mono, above_none, factor_last}
 use Rattle.json_exact.proofs.GroupLaws.{fours}
@@ -33,10 +33,12 @@ drop_at (d ∷ ds) (suc i) h = drop_at ds i (omega arith)
 quotient_is : (a b j n p r : ℕ) → 0 < p → 0 < r → j ≡ a * r + b → b < r → n * r ≡ j * p → n / p ≡ a
 quotient_is a b j n p r more some e lt f =
     let g : n * r ≡ a * p * r + b * p = f ∙ ap (λ (x : ℕ). x * p) e ∙ products a r b p in
-    let le : a * p ≤ n = elim (cases_lt n (a * p)) [ inr h ↦ h | inl h ↦ absurd (let k : n * r < a * p * r = mul-lt-mul_of_pos_right h some in omega arith) ] in
+    let le : a * p ≤ n =
+    elim (cases_lt n (a * p)) [ inr h ↦ h | inl h ↦ absurd (let k : n * r < a * p * r = mul-lt-mul_of_pos_right h some in omega arith) ] in
     let t = n - a * p in
     let u : t * r ≡ b * p = let k : (a * p + t) * r ≡ n * r = ap (λ (x : ℕ). x * r) (let i : a * p + t ≡ n = omega arith in i) in omega arith in
-    let small : t < p = (let k : b * p < r * p = mul-lt-mul_of_pos_right lt more in lt_of_mul-lt-mul_right r (let m : t * r < p * r = omega arith in m)) in
+    let small : t < p =
+    (let k : b * p < r * p = mul-lt-mul_of_pos_right lt more in lt_of_mul-lt-mul_right r (let m : t * r < p * r = omega arith in m)) in
     sym (ap (λ (x : ℕ). x / p) (let i : a * p + t ≡ n = omega arith in i)) ∙ div-mul-add a p t small
   where
     products : (a r b p : ℕ) → (a * r + b) * p ≡ a * p * r + b * p
@@ -60,7 +62,8 @@ module _ (b more : ℕ) (two : 1 < b) where
   low_digit : (j n len place t : ℕ) → n * b ^ suc more ≡ j * b ^ len → len ≡ place + suc t + suc more → n / b ^ place % b ≡ 0
   low_digit j n len place t e f =
       let r : n ≡ j * b ^ suc t * b ^ place = eq_of_mul-eq-mul_right (b ^ suc more) (power_pos b (suc more) some) n (j * b ^ suc t * b ^ place)
-      (e ∙ ap (λ (x : ℕ). j * x) (ap (λ (k : ℕ). b ^ k) f ∙ pow-add b (place + suc t) (suc more) ∙ ap (λ (x : ℕ). x * b ^ suc more) (pow-add b place (suc t)))
+      (e ∙ ap (λ (x : ℕ). j * x)
+      (ap (λ (k : ℕ). b ^ k) f ∙ pow-add b (place + suc t) (suc more) ∙ ap (λ (x : ℕ). x * b ^ suc more) (pow-add b place (suc t)))
       ∙ products j (b ^ place) (b ^ suc t) (b ^ suc more)) in
       ap (λ (x : ℕ). x / b ^ place % b) r ∙ ap (λ (x : ℕ). x % b) (mul-div_cancel (j * b ^ suc t) (power_pos b place some))
       ∙ ap (λ (x : ℕ). x % b) (ap (λ (x : ℕ). j * x) (pow-suc b t) ∙ sym (factor_last j (b ^ t) b)) ∙ mul-mod_left (j * b ^ t) b
@@ -77,15 +80,22 @@ module _ (b more : ℕ) (two : 1 < b) where
       let d = get_or ds i 0 in
       let cut = drop_at ds i (omega arith) in
       let rest : length (drop (suc i) ds) ≡ r = drop_length (suc i) r ds (omega arith) in
-      let below : joined b (drop (suc i) ds) < b ^ r = subst (λ (k : ℕ). joined b (drop (suc i) ds) < b ^ k) rest (joined_below b (drop (suc i) ds) (below_drop b (suc i) ds h.below)) in
+      let below : joined b (drop (suc i) ds) < b ^ r =
+      subst (λ (k : ℕ). joined b (drop (suc i) ds) < b ^ k) rest (joined_below b (drop (suc i) ds) (below_drop b (suc i) ds h.below)) in
       let whole : joined b ds ≡ (joined b (take i ds) * b + d) * b ^ r + joined b (drop (suc i) ds) =
-      s ∙ ap (λ (x : ℕ). joined b (take i ds) * b ^ suc r + x) (ap (λ (xs : List ℕ). joined b xs) cut ∙ ap (λ (k : ℕ). d * b ^ k + joined b (drop (suc i) ds)) rest)
-      ∙ ap (λ (x : ℕ). joined b (take i ds) * x + (d * b ^ r + joined b (drop (suc i) ds))) (pow-suc b r) ∙ grouped (joined b (take i ds)) d (b ^ r) (joined b (drop (suc i) ds)) in
-      let shifted : n * b ^ r ≡ joined b ds * b ^ place = eq_of_mul-eq-mul_right (b ^ suc i) (power_pos b (suc i) some) (n * b ^ r) (joined b ds * b ^ place)
-      (factor_last n (b ^ r) (b ^ suc i) ∙ ap (λ (x : ℕ). n * x) (sym (pow-add b r (suc i)) ∙ ap (λ (k : ℕ). b ^ k) (let k : r + suc i ≡ suc more = omega arith in k)) ∙ h.size
-      ∙ ap (λ (x : ℕ). joined b ds * x) (ap (λ (k : ℕ). b ^ k) t ∙ pow-add b place (suc i)) ∙ sym (factor_last (joined b ds) (b ^ place) (b ^ suc i))) in
+      s ∙ ap (λ (x : ℕ). joined b (take i ds) * b ^ suc r + x)
+      (ap (λ (xs : List ℕ). joined b xs) cut ∙ ap (λ (k : ℕ). d * b ^ k + joined b (drop (suc i) ds)) rest)
+      ∙ ap (λ (x : ℕ). joined b (take i ds) * x + (d * b ^ r + joined b (drop (suc i) ds))) (pow-suc b r)
+      ∙ grouped (joined b (take i ds)) d (b ^ r) (joined b (drop (suc i) ds)) in
+      let shifted : n * b ^ r ≡ joined b ds * b ^ place =
+      eq_of_mul-eq-mul_right (b ^ suc i) (power_pos b (suc i) some) (n * b ^ r) (joined b ds * b ^ place)
+      (factor_last n (b ^ r) (b ^ suc i)
+      ∙ ap (λ (x : ℕ). n * x) (sym (pow-add b r (suc i)) ∙ ap (λ (k : ℕ). b ^ k) (let k : r + suc i ≡ suc more = omega arith in k)) ∙ h.size
+      ∙ ap (λ (x : ℕ). joined b ds * x) (ap (λ (k : ℕ). b ^ k) t ∙ pow-add b place (suc i))
+      ∙ sym (factor_last (joined b ds) (b ^ place) (b ^ suc i))) in
       ap (λ (x : ℕ). x % b)
-      (quotient_is (joined b (take i ds) * b + d) (joined b (drop (suc i) ds)) (joined b ds) n (b ^ place) (b ^ r) (power_pos b place some) (power_pos b r some) whole below shifted)
+      (quotient_is (joined b (take i ds) * b + d) (joined b (drop (suc i) ds)) (joined b ds) n (b ^ place) (b ^ r) (power_pos b place some)
+      (power_pos b r some) whole below shifted)
       ∙ mod-mul-add (joined b (take i ds)) b d (below_at b ds i some h.below)
     where
       grouped : (a d p u : ℕ) → a * (p * b) + (d * p + u) ≡ (a * b + d) * p + u
@@ -100,18 +110,21 @@ at_decimal a d place group h e f =
 
 -- at a place before the first group
 pub group_above : (a : Inside) (d : ℤ) (place : ℕ) → IsFields a → parts_of a ≡ d → a.top ≤ place → 0 ≡ nat_abs d * 10 / 10000 ^ place % 10000
-group_above a d place h e le = at_decimal a d place 0 h e (λ n s. high_digit 10000 10 (omega arith) n a.top place (below_len 10000 10 (omega arith) a.groups a.top n s) le)
+group_above a d place h e le =
+    at_decimal a d place 0 h e (λ n s. high_digit 10000 10 (omega arith) n a.top place (below_len 10000 10 (omega arith) a.groups a.top n s) le)
 
 -- at a place among the groups that are kept
 pub group_within : (a : Inside) (d : ℤ) (place : ℕ) → IsFields a → parts_of a ≡ d → place < a.top → a.top - 1 - place < 11
     → get_or a.groups (a.top - 1 - place) 0 ≡ nat_abs d * 10 / 10000 ^ place % 10000
 group_within a d place h e lt small =
-    at_decimal a d place (get_or a.groups (a.top - 1 - place) 0) h e (λ n s. kept_digit 10000 10 (omega arith) a.groups a.top n place (a.top - 1 - place) s small (omega arith))
+    at_decimal a d place (get_or a.groups (a.top - 1 - place) 0) h e
+    (λ n s. kept_digit 10000 10 (omega arith) a.groups a.top n place (a.top - 1 - place) s small (omega arith))
 
 -- at a place past them
 pub group_below : (a : Inside) (d : ℤ) (place : ℕ) → IsFields a → parts_of a ≡ d → 11 ≤ a.top - 1 - place → 0 ≡ nat_abs d * 10 / 10000 ^ place % 10000
 group_below a d place h e le =
-    at_decimal a d place 0 h e (λ n s. low_digit 10000 10 (omega arith) (joined 10000 a.groups) n a.top place (a.top - 1 - place - 11) s.size (omega arith))
+    at_decimal a d place 0 h e
+    (λ n s. low_digit 10000 10 (omega arith) (joined 10000 a.groups) n a.top place (a.top - 1 - place - 11) s.size (omega arith))
 
 -- each group is one
 pub group_small : (a : Inside) (i : ℕ) → IsFields a → get_or a.groups i 0 < 10000
@@ -182,12 +195,14 @@ first_group gs u n h =
     omega arith
 
 -- the digits of the first group and those of the groups behind it are counted
-pub some_counted : (a : Inside) (d : ℤ) (c : ℕ) → IsFields a → parts_of a ≡ d → 0 < a.top → 10 ^ c ≤ get_or a.groups 0 0 → get_or a.groups 0 0 < 10 ^ suc c
+pub some_counted : (a : Inside) (d : ℤ) (c : ℕ) → IsFields a → parts_of a ≡ d → 0 < a.top → 10 ^ c ≤ get_or a.groups 0 0
+    → get_or a.groups 0 0 < 10 ^ suc c
     → 4 * (a.top - 1) + c ≡ count (nat_abs d)
 some_counted a d c h e lt lo hi =
     let (q, s) = sized a d h e in
     let u = a.top - 1 in
-    let k : Keeps 10000 10 a.groups (suc u) (q * 10) = subst (λ (i : ℕ). Keeps 10000 10 a.groups i (q * 10)) (let i : a.top ≡ suc u = omega arith in i) s.keeps in
+    let k : Keeps 10000 10 a.groups (suc u) (q * 10) =
+    subst (λ (i : ℕ). Keeps 10000 10 a.groups i (q * 10)) (let i : a.top ≡ suc u = omega arith in i) s.keeps in
     let n = q * 10 in
     let p = 10000 ^ u in
     let some = power_pos 10000 u (omega arith) in
@@ -196,7 +211,8 @@ some_counted a d c h e lt lo hi =
     let low : 10 ^ c * p ≤ get_or a.groups 0 0 * p = mul-le-mul_right p lo in
     let high : (get_or a.groups 0 0 + 1) * p ≤ 10 ^ suc c * p = mul-le-mul_right p (omega arith) in
     let i : 10 ^ (4 * u + c) ≡ 10 ^ c * p = pow-add 10 (4 * u) c ∙ ap (λ (x : ℕ). x * 10 ^ c) (sym (fours u)) ∙ turned p (10 ^ c) in
-    let j : 10 ^ suc (4 * u + c) ≡ 10 ^ suc c * p = pow-suc 10 (4 * u + c) ∙ ap (λ (x : ℕ). x * 10) i ∙ raised (10 ^ c) p (10 ^ suc c) (pow-suc 10 c) in
+    let j : 10 ^ suc (4 * u + c) ≡ 10 ^ suc c * p =
+    pow-suc 10 (4 * u + c) ∙ ap (λ (x : ℕ). x * 10) i ∙ raised (10 ^ c) p (10 ^ suc c) (pow-suc 10 c) in
     counted q (4 * u + c) (some_parts a.groups a.top q s.keeps lt) (omega arith) (omega arith) ∙ ap (λ (x : ℕ). count x) (sym s.abs)
   where
     turned : (x y : ℕ) → x * y ≡ y * x

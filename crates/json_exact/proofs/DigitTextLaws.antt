@@ -3,7 +3,7 @@ use Rattle.std.proofs.Common.{◌≡◌, ℕ, zero, suc, ◌+◌, ◌-◌, ◌*�
 use Rattle.std.specs.Prelude.{nat_le}
 use Rattle.std.proofs.lemmas.Bool.{leb-true, and_parts, le-leb, and_from}
 use Rattle.json_exact.specs.Literal.{IsDigit, AreDigits, number}
-use Rattle.json_exact.specs.Reading.{is_digit, digit_count, all_digits}
+use Rattle.json_exact.specs.inner.Reading.{is_digit, digit_count, all_digits}
 use Rattle.json_exact.proofs.GroupLaws.{after, after_is, after_zero}
 
 -- the values of digits
@@ -37,7 +37,8 @@ pub front_length : (text : List ℕ) → length (take (digit_count text) text) �
 front_length text = take_length (digit_count text) text (count_within text)
 
 -- the digits at the front behind n make n times a power of ten, and their number
-pub front_after : (n k : ℕ) (text : List ℕ) → k ≡ digit_count text → after 10 n (values (take (digit_count text) text)) ≡ n * 10 ^ k + number (take k text)
+pub front_after : (n k : ℕ) (text : List ℕ) → k ≡ digit_count text
+    → after 10 n (values (take (digit_count text) text)) ≡ n * 10 ^ k + number (take k text)
 front_after n k text e =
     number_after n (take (digit_count text) text)
     ∙ ap (λ (i : ℕ). n * 10 ^ i + number (take (digit_count text) text)) (front_length text)
@@ -56,7 +57,8 @@ pub front_digits : (text : List ℕ) → AreDigits (take (digit_count text) text
 front_digits [] = tt
 front_digits (c ∷ cs) = go (is_digit c) refl (front_digits cs)
   where
-    go : (t : Bool) → is_digit c ≡ t → AreDigits (take (digit_count cs) cs) → AreDigits (take (elim t as (λ _. ℕ) [ true ↦ suc (digit_count cs) | false ↦ 0 ]) (c ∷ cs))
+    go : (t : Bool) → is_digit c ≡ t → AreDigits (take (digit_count cs) cs)
+        → AreDigits (take (elim t as (λ _. ℕ) [ true ↦ suc (digit_count cs) | false ↦ 0 ]) (c ∷ cs))
     go true e h = (digit_is c e, h)
     go false e h = tt
 

@@ -6,8 +6,8 @@ use mathlib.Core.Bool.{beq}
 use Rattle.std.specs.Cmp.Lexicographic.{pointwise}
 use Rattle.std.proofs.lemmas.Bool.Decides.{Decides-int_eq, Decides-eqb}
 use Rattle.std.proofs.lemmas.Slice.Eq.{slice_eq-Decides}
-use Rattle.json_exact.specs.DecimalFields.{parts_of, IsFields}
-use Rattle.json_exact.specs.DecimalInverseLaws.{fields_of, fields_of-parts_of}
+use Rattle.json_exact.specs.inner.DecimalFields.{parts_of, IsFields}
+use Rattle.json_exact.specs.inner.DecimalInverseLaws.{fields_of, fields_of-parts_of}
 use Rattle.json_exact.specs.declared.decimal.Decimal.TheInside.{Inside}
 
 pub differ : (x y : ℤ) → (x ≡ y → ⊥) → int_eq x y ≡ false
@@ -30,7 +30,8 @@ pub unequal : (a b : Inside) (x y : ℤ) → Seen a x → Seen b y → (a ≡ b 
 unequal a b x y s t h = differ x y (λ e. h (same a b x y s t e))
 
 -- where the sign and the place are the same, the groups tell
-pub tested : (a b : Inside) (x y : ℤ) (r : Bool) → Seen a x → Seen b y → a.negative ≡ b.negative → a.top ≡ b.top → r ≡ pointwise eqb a.groups b.groups → r ≡ int_eq x y
+pub tested : (a b : Inside) (x y : ℤ) (r : Bool) → Seen a x → Seen b y → a.negative ≡ b.negative → a.top ≡ b.top
+    → r ≡ pointwise eqb a.groups b.groups → r ≡ int_eq x y
 tested a b x y r s u n p e = go r refl
   where
     d : Decides r (a.groups ≡ b.groups)
@@ -38,7 +39,8 @@ tested a b x y r s u n p e = go r refl
 
     all : a.groups ≡ b.groups → a ≡ b
     all f = ap (λ (n : Bool). record { negative = n; groups = a.groups; top = a.top }) n
-        ∙ ap (λ (ds : List ℕ). record { negative = b.negative; groups = ds; top = a.top }) f ∙ ap (λ (t : ℕ). record { negative = b.negative; groups = b.groups; top = t }) p
+        ∙ ap (λ (ds : List ℕ). record { negative = b.negative; groups = ds; top = a.top }) f
+        ∙ ap (λ (t : ℕ). record { negative = b.negative; groups = b.groups; top = t }) p
 
     not_both : r ≡ true → r ≡ false → ⊥
     not_both u v = cc

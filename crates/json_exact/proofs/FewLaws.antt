@@ -5,8 +5,8 @@ use Rattle.std.proofs.lemmas.List.{get_or_past}
 use Rattle.json_model.specs.Decimal.{HasNarrowDigits}
 use Rattle.json_exact.specs.Digits.{joined, AllBelow}
 use Rattle.json_exact.specs.Groups.{groups_of, AreGroups}
-use Rattle.json_exact.specs.LeadingDigitsLaws.{joined_below}
-use Rattle.json_exact.specs.SignificantDigits.{Pushed, kept}
+use Rattle.json_exact.specs.inner.LeadingDigitsLaws.{joined_below}
+use Rattle.json_exact.specs.inner.SignificantDigits.{Pushed, kept}
 use Rattle.json_exact.proofs.DigitLaws.{power_mono}
 use Rattle.json_exact.proofs.GroupLaws.{many}
 
@@ -139,7 +139,8 @@ pub few_held : (bytes ds : List ℕ) → AreGroups bytes → length bytes / 2 �
 few_held bytes ds h few some e =
     let m = many bytes h in
     subst (λ (k : ℕ). Pushed 10000 10 ds k false (joined 10000 (groups_of bytes))) m
-    (subst (λ (hs : List ℕ). Pushed 10000 10 hs (length (groups_of bytes)) false (joined 10000 (groups_of bytes))) (sym (e ∙ reads_filled 11 (groups_of bytes)))
+    (subst (λ (hs : List ℕ). Pushed 10000 10 hs (length (groups_of bytes)) false (joined 10000 (groups_of bytes)))
+    (sym (e ∙ reads_filled 11 (groups_of bytes)))
     (few_hold (groups_of bytes) (groups_below bytes h) (omega arith) some))
 
 pub few_are_narrow : (bytes : List ℕ) → AreGroups bytes → length bytes / 2 ≤ 9 → HasNarrowDigits (joined 10000 (groups_of bytes))

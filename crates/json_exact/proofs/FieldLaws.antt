@@ -7,11 +7,11 @@ use native.Mathlib.Numerals.{unary_clauses}
 use Rattle.json_model.specs.Decimal.{HasNarrowDigits}
 use Rattle.json_exact.specs.Exact.{signed}
 use Rattle.json_exact.specs.Digits.{joined}
-use Rattle.json_exact.specs.LeadingDigits.{Keeps}
-use Rattle.json_exact.specs.LeadingDigitsLaws.{power_pos, below_len, from_len}
-use Rattle.json_exact.specs.DecimalFields.{parts_of, IsFields}
-use Rattle.json_exact.specs.DecimalInverseLaws.{size_is}
-use Rattle.json_exact.specs.SignificantDigits.{Pushed, kept, lost}
+use Rattle.json_exact.specs.inner.LeadingDigits.{Keeps}
+use Rattle.json_exact.specs.inner.LeadingDigitsLaws.{power_pos, below_len, from_len}
+use Rattle.json_exact.specs.inner.DecimalFields.{parts_of, IsFields}
+use Rattle.json_exact.specs.inner.DecimalInverseLaws.{size_is}
+use Rattle.json_exact.specs.inner.SignificantDigits.{Pushed, kept, lost}
 use Rattle.json_exact.proofs.DigitLaws.{power_mono, none_of, above_of, factor_last}
 use Rattle.json_exact.proofs.GroupLaws.{fours}
 use Rattle.json_exact.proofs.NarrowLaws.{narrow_same}
@@ -104,7 +104,8 @@ parts_none m gs n up down q h e =
     zeros true = refl
     zeros false = refl
 
-pub fields_some : (m : Bool) (gs : List ℕ) (len n up down q : ℕ) → 0 < len → Keeps 10000 10 gs len n → HasNarrowDigits n → n * 10000 ^ up ≡ q * 10 * 10000 ^ down → len + up ≤ 36864 + down
+pub fields_some : (m : Bool) (gs : List ℕ) (len n up down q : ℕ) → 0 < len → Keeps 10000 10 gs len n → HasNarrowDigits n
+    → n * 10000 ^ up ≡ q * 10 * 10000 ^ down → len + up ≤ 36864 + down
     → IsFields (record { negative = m; groups = gs; top = len + up - down })
 fields_some m gs len n up down q p h narrow e le = record {
   worth = (q, moved 10000 10 (omega arith) gs len n up down (q * 10) p h e, narrow_moved n q up down e narrow);
@@ -115,4 +116,5 @@ fields_some m gs len n up down q p h narrow e le = record {
 pub parts_some : (m : Bool) (gs : List ℕ) (len n up down q : ℕ) → 0 < len → Keeps 10000 10 gs len n → n * 10000 ^ up ≡ q * 10 * 10000 ^ down
     → parts_of (record { negative = m; groups = gs; top = len + up - down }) ≡ signed m q
 unfolding parts_of
-parts_some m gs len n up down q p h e = ap (λ (x : ℕ). signed m x) (size_is gs (len + up - down) q (moved 10000 10 (omega arith) gs len n up down (q * 10) p h e))
+parts_some m gs len n up down q p h e =
+    ap (λ (x : ℕ). signed m x) (size_is gs (len + up - down) q (moved 10000 10 (omega arith) gs len n up down (q * 10) p h e))

@@ -9,7 +9,7 @@ use Rattle.json_model.specs.Decimal.{HasNarrowDigits}
 use Rattle.json_exact.specs.Exact.{parts}
 use Rattle.json_exact.specs.Digits.{joined}
 use Rattle.json_exact.specs.Groups.{groups_of, lifted, AreGroups, AreWorth}
-use Rattle.json_exact.specs.SignificantDigits.{Pushed, kept, lost}
+use Rattle.json_exact.specs.inner.SignificantDigits.{Pushed, kept, lost}
 
 pub fours : (n : ℕ) → 10000 ^ n ≡ 10 ^ (4 * n)
 fours zero = refl

@@ -11,10 +11,10 @@ use Rattle.std.proofs.lemmas.List.Elements.{All-nil, All-cons}
 use Rattle.json_exact.specs.Exact.{parts}
 use Rattle.json_exact.specs.Digits.{joined}
 use Rattle.json_exact.specs.DecimalGroups.{group, IsGreatestPlace, IsLeastPlace}
-use Rattle.json_exact.specs.LeadingDigits.{Keeps}
-use Rattle.json_exact.specs.LeadingDigitsLaws.{power_pos}
-use Rattle.json_exact.specs.DecimalFields.{parts_of, IsFields}
-use Rattle.json_exact.specs.DecimalInverseLaws.{some_parts}
+use Rattle.json_exact.specs.inner.LeadingDigits.{Keeps}
+use Rattle.json_exact.specs.inner.LeadingDigitsLaws.{power_pos}
+use Rattle.json_exact.specs.inner.DecimalFields.{parts_of, IsFields}
+use Rattle.json_exact.specs.inner.DecimalInverseLaws.{some_parts}
 use Rattle.json_exact.specs.declared.decimal.Decimal.TheInside.{Inside}
 use Rattle.json_exact.proofs.DigitLaws.{factor_last, above_none}
 use Rattle.json_exact.proofs.DigitPlaceLaws.{drop_at, below_at, group_above, group_within, first_group_some}
@@ -24,14 +24,17 @@ use Rattle.json_exact.proofs.WholeLaws.{sized, AreZeros, none_counts, drop_lengt
 
 -- a common factor does not matter to a quotient
 same_quotient : (a b c : ℕ) → 0 < c → a * c / (b * c) ≡ a / b
-same_quotient a b c some = ap (λ (x : ℕ). a * c / x) (let e : b * c ≡ c * b = omega arith in e) ∙ sym (div-div-eq-div-mul (a * c) c b) ∙ ap (λ (x : ℕ). x / b) (mul-div_cancel a some)
+same_quotient a b c some =
+    ap (λ (x : ℕ). a * c / x) (let e : b * c ≡ c * b = omega arith in e) ∙ sym (div-div-eq-div-mul (a * c) c b)
+    ∙ ap (λ (x : ℕ). x / b) (mul-div_cancel a some)
 
 -- k counts from the last of the groups, p from the point
 pub group_lifted : (p : ℤ) (k n : ℕ) → p +ℤ pos 4096 ≡ pos k → n * 10 / 10000 ^ k % 10000 ≡ group p n
 unfolding parts
 group_lifted (pos p) k n e =
     let i : k ≡ 4096 + p = omega (arith, ints) in
-    ap (λ (x : ℕ). n * 10 / x % 10000) (ap (λ (j : ℕ). 10000 ^ j) i ∙ pow-add 10000 4096 p ∙ ap (λ (x : ℕ). x * 10000 ^ p) whole_groups ∙ turned (10 ^ 16383) (10000 ^ p))
+    ap (λ (x : ℕ). n * 10 / x % 10000)
+    (ap (λ (j : ℕ). 10000 ^ j) i ∙ pow-add 10000 4096 p ∙ ap (λ (x : ℕ). x * 10000 ^ p) whole_groups ∙ turned (10 ^ 16383) (10000 ^ p))
     ∙ ap (λ (x : ℕ). x % 10000) (same_quotient n (10 ^ 16383 * 10000 ^ p) 10 (omega arith))
   where
     turned : (u v : ℕ) → u * 10 * v ≡ u * v * 10
@@ -57,7 +60,8 @@ group_under (negsuc p) n lt =
     let i : suc p ≡ 4096 + suc (p - 4096) = omega (arith, ints) in
     let j = p - 4096 in
     sym (ap (λ (x : ℕ). n * x / 10 ^ 16383 % 10000)
-    (ap (λ (k : ℕ). 10000 ^ k) i ∙ pow-add 10000 4096 (suc j) ∙ ap (λ (x : ℕ). 10000 ^ 4096 * x) (pow-suc 10000 j) ∙ ap (λ (x : ℕ). x * (10000 ^ j * 10000)) whole_groups)
+    (ap (λ (k : ℕ). 10000 ^ k) i ∙ pow-add 10000 4096 (suc j) ∙ ap (λ (x : ℕ). 10000 ^ 4096 * x) (pow-suc 10000 j)
+    ∙ ap (λ (x : ℕ). x * (10000 ^ j * 10000)) whole_groups)
     ∙ ap (λ (x : ℕ). x / 10 ^ 16383 % 10000) (turned n (10 ^ 16383) (10000 ^ j))
     ∙ ap (λ (x : ℕ). x % 10000) (mul-div_cancel (n * 10 * 10000 ^ j * 10000) (power_pos 10 16383 (omega arith)))
     ∙ mul-mod_left (n * 10 * 10000 ^ j) 10000)
@@ -88,7 +92,8 @@ not_zero a d h e some z =
     omega arith
 
 -- the first group stands at the greatest place
-pub greatest : (a : Inside) (d w : ℤ) → IsFields a → parts_of a ≡ d → (a.top ≡ 0 → ⊥) → w +ℤ pos 4096 ≡ pos (a.top - 1) → IsGreatestPlace (nat_abs d) w
+pub greatest : (a : Inside) (d w : ℤ) → IsFields a → parts_of a ≡ d → (a.top ≡ 0 → ⊥) → w +ℤ pos 4096 ≡ pos (a.top - 1)
+    → IsGreatestPlace (nat_abs d) w
 greatest a d w h e some at = record {
   some = λ z.
       let p = above_none a.top some in
@@ -110,7 +115,9 @@ take_joined b zero (d ∷ ds) lt = let e : b ^ 0 ≡ 1 = simp unary_clauses in r
 take_joined b (suc k) (d ∷ ds) lt =
     let more = length-take-le (suc k) ds (omega arith) in
     let less = length-take-le k ds (omega arith) in
-    rw (more, less) (step d b (b ^ k) (b ^ suc k) (joined b (take k ds)) (joined b (take (suc k) ds)) (get_or ds k 0) (pow-suc b k) (take_joined b k ds (omega arith)))
+    rw (more, less)
+    (step d b (b ^ k) (b ^ suc k) (joined b (take k ds)) (joined b (take (suc k) ds)) (get_or ds k 0) (pow-suc b k)
+    (take_joined b k ds (omega arith)))
   where
     step : (d b u v x y g : ℕ) → v ≡ u * b → y ≡ x * b + g → d * v + y ≡ (d * u + x) * b + g
     step d b u v x y g e f = rw (e, f) (omega arith)
@@ -136,7 +143,8 @@ pub record UpTo (ds : List ℕ) (len n last : ℕ) : Type 0 where
   pub within : suc last ≤ len
   pub exact : n ≡ joined 10000 (take (suc last) ds) * 10000 ^ (len - suc last)
 
-pub up_to : (ds : List ℕ) (len n last : ℕ) → Keeps 10000 10 ds len n → last < 11 → 0 < get_or ds last 0 → AreZeros (drop (suc last) ds) → UpTo ds len n last
+pub up_to : (ds : List ℕ) (len n last : ℕ) → Keeps 10000 10 ds len n → last < 11 → 0 < get_or ds last 0 → AreZeros (drop (suc last) ds)
+    → UpTo ds len n last
 up_to ds len n last h lt some zeros = record {
   within = within;
   exact = eq_of_mul-eq-mul_right (10000 ^ suc last) (power_pos 10000 (suc last) (omega arith)) n (a * 10000 ^ (len - suc last))
@@ -158,7 +166,8 @@ up_to ds len n last h lt some zeros = record {
     moved : n * 10000 ^ suc last ≡ a * 10000 ^ len
     moved = eq_of_mul-eq-mul_right (10000 ^ (10 - last)) (power_pos 10000 (10 - last) (omega arith)) (n * 10000 ^ suc last) (a * 10000 ^ len)
         (factor_last n (10000 ^ suc last) (10000 ^ (10 - last))
-        ∙ ap (λ (x : ℕ). n * x) (sym (pow-add 10000 (suc last) (10 - last)) ∙ ap (λ (k : ℕ). 10000 ^ k) (let i : suc last + (10 - last) ≡ 11 = omega arith in i))
+        ∙ ap (λ (x : ℕ). n * x)
+        (sym (pow-add 10000 (suc last) (10 - last)) ∙ ap (λ (k : ℕ). 10000 ^ k) (let i : suc last + (10 - last) ≡ 11 = omega arith in i))
         ∙ h.size ∙ ap (λ (x : ℕ). x * 10000 ^ len) all ∙ turned a (10000 ^ (10 - last)) (10000 ^ len))
       where
         turned : (x y z : ℕ) → x * y * z ≡ x * z * y
@@ -171,8 +180,11 @@ up_to ds len n last h lt some zeros = record {
           let t = last - len in
           let f : a ≡ n * 10000 ^ suc t = eq_of_mul-eq-mul_right (10000 ^ len) (power_pos 10000 len (omega arith)) a (n * 10000 ^ suc t)
           (sym moved ∙ ap (λ (x : ℕ). n * x)
-          (ap (λ (k : ℕ). 10000 ^ k) (let i : suc last ≡ suc t + len = omega arith in i) ∙ pow-add 10000 (suc t) len) ∙ sym (factor_last n (10000 ^ suc t) (10000 ^ len))) in
-          let g : a % 10000 ≡ 0 = ap (λ (x : ℕ). x % 10000) (f ∙ ap (λ (x : ℕ). n * x) (pow-suc 10000 t) ∙ sym (factor_last n (10000 ^ t) 10000)) ∙ mul-mod_left (n * 10000 ^ t) 10000 in
+          (ap (λ (k : ℕ). 10000 ^ k) (let i : suc last ≡ suc t + len = omega arith in i) ∙ pow-add 10000 (suc t) len)
+          ∙ sym (factor_last n (10000 ^ suc t) (10000 ^ len))) in
+          let g : a % 10000 ≡ 0 =
+          ap (λ (x : ℕ). x % 10000) (f ∙ ap (λ (x : ℕ). n * x) (pow-suc 10000 t) ∙ sym (factor_last n (10000 ^ t) 10000))
+          ∙ mul-mod_left (n * 10000 ^ t) 10000 in
           let few : last < length ds = (let c = h.count in omega arith) in
           let j : a % 10000 ≡ get_or ds last 0 = ap (λ (x : ℕ). x % 10000) (take_joined 10000 last ds few)
           ∙ mod-mul-add (joined 10000 (take last ds)) 10000 (get_or ds last 0) (below_at 10000 ds last (omega arith) h.below) in
@@ -189,11 +201,13 @@ zeros_more ds k lt z h = subst (λ (xs : List ℕ). AreZeros xs) (sym (drop_at d
 pub zeros_from : (ds : List ℕ) (i k : ℕ) → i ≡ k → AreZeros (drop i ds) → AreZeros (drop k ds)
 zeros_from ds i k e h = subst (λ (j : ℕ). AreZeros (drop j ds)) e h
 
-pub last_within : (a : Inside) (last : ℕ) → IsFields a → last < 11 → 0 < get_or a.groups last 0 → AreZeros (drop (suc last) a.groups) → suc last ≤ a.top
+pub last_within : (a : Inside) (last : ℕ) → IsFields a → last < 11 → 0 < get_or a.groups last 0 → AreZeros (drop (suc last) a.groups)
+    → suc last ≤ a.top
 last_within a last h lt some zeros = (up_to a.groups a.top (h.worth.0 * 10) last h.worth.1 lt some zeros).within
 
 -- the last group that is not 0 stands at the least place
-pub least : (a : Inside) (d w : ℤ) (last : ℕ) → IsFields a → parts_of a ≡ d → last < 11 → 0 < get_or a.groups last 0 → AreZeros (drop (suc last) a.groups)
+pub least : (a : Inside) (d w : ℤ) (last : ℕ) → IsFields a → parts_of a ≡ d → last < 11 → 0 < get_or a.groups last 0
+    → AreZeros (drop (suc last) a.groups)
     → w +ℤ pos 4096 ≡ pos (a.top - 1 - last) → IsLeastPlace (nat_abs d) w
 least a d w last h e lt some zeros at =
     let (q, s) = sized a d h e in
@@ -219,6 +233,9 @@ least a d w last h e lt some zeros at =
     none n x t k e lt =
         let i : t ≡ suc (t - suc k) + k = omega arith in
         let j = t - suc k in
-        ap (λ (y : ℕ). y / 10000 ^ k % 10000) (e ∙ ap (λ (y : ℕ). x * y) (ap (λ (m : ℕ). 10000 ^ m) i ∙ pow-add 10000 (suc j) k) ∙ sym (factor_last x (10000 ^ suc j) (10000 ^ k)))
-        ∙ ap (λ (y : ℕ). y % 10000) (mul-div_cancel (x * 10000 ^ suc j) (power_pos 10000 k (omega arith)) ∙ ap (λ (y : ℕ). x * y) (pow-suc 10000 j) ∙ sym (factor_last x (10000 ^ j) 10000))
+        ap (λ (y : ℕ). y / 10000 ^ k % 10000)
+        (e ∙ ap (λ (y : ℕ). x * y) (ap (λ (m : ℕ). 10000 ^ m) i ∙ pow-add 10000 (suc j) k) ∙ sym (factor_last x (10000 ^ suc j) (10000 ^ k)))
+        ∙ ap (λ (y : ℕ). y % 10000)
+        (mul-div_cancel (x * 10000 ^ suc j) (power_pos 10000 k (omega arith)) ∙ ap (λ (y : ℕ). x * y) (pow-suc 10000 j)
+        ∙ sym (factor_last x (10000 ^ j) 10000))
         ∙ mul-mod_left (x * 10000 ^ j) 10000

@@ -52,7 +52,8 @@ module _ {V : Type 0} where
       )
 
   -- at last all is inside
-  pub all_inside : (left inside whole : List (List ℕ × V)) → left ≡ [] → rises (keys_of inside) ≡ true → rises (keys_of whole) ≡ true → Shares left inside whole
+  pub all_inside : (left inside whole : List (List ℕ × V)) → left ≡ [] → rises (keys_of inside) ≡ true → rises (keys_of whole) ≡ true
+      → Shares left inside whole
       → inside ≡ whole
   all_inside left inside whole e f g s =
       one_list inside whole f g (λ k. sym (ap (λ (ps : List (List ℕ × V)). or_else (lookup k ps) (lookup k inside)) e) ∙ s k)

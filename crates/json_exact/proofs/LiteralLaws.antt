@@ -4,7 +4,7 @@ use Rattle.std.specs.Prelude.{Option, Some, None}
 use Rattle.json_model.specs.Decimal.{Decimal as Written}
 use Rattle.json_exact.specs.Literal.{number, placed, IsLiteral}
 use Rattle.json_exact.specs.Parsed.{IsNoLiteral}
-use Rattle.json_exact.specs.Reading.{minus_of, whole_of, fraction_of, exponent_of, Parts, with_exponent, with_fraction, with_whole, literal_of}
+use Rattle.json_exact.specs.inner.Reading.{minus_of, whole_of, fraction_of, exponent_of, Parts, with_exponent, with_fraction, with_whole, literal_of}
 use Rattle.json_exact.proofs.ReadingLaws.{minus_takes, minus_again, whole_takes, whole_again, fraction_takes, fraction_again, exponent_takes, exponent_again, no_digit_exponent, no_point_exponent, no_digit_fraction, no_sign}
 
 -- what parts write
@@ -49,7 +49,8 @@ unfolding with_whole
 whole_step m None p h = absurd cc
 whole_step m (Some r) p h = record { value = r; is = refl; goes = h }
 
-fraction_step : (m : Bool) (w : List ℕ) (o : Option (List ℕ × List ℕ)) (p : Parts) → with_fraction m w o ≡ Some p → Step o (λ r. with_exponent m w r.0 (exponent_of r.1)) p
+fraction_step : (m : Bool) (w : List ℕ) (o : Option (List ℕ × List ℕ)) (p : Parts) → with_fraction m w o ≡ Some p
+    → Step o (λ r. with_exponent m w r.0 (exponent_of r.1)) p
 unfolding with_fraction
 fraction_step m w None p h = absurd cc
 fraction_step m w (Some r) p h = record { value = r; is = refl; goes = h }

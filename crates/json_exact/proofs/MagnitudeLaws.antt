@@ -7,9 +7,9 @@ use Rattle.std.proofs.lemmas.Nat.{div-add-mod', pow-add}
 use Rattle.json_model.specs.Decimal.{IsWhole}
 use Rattle.json_exact.specs.Exact.{parts, exactly, signed}
 use Rattle.json_exact.specs.Digits.{count_of, count}
-use Rattle.json_exact.specs.LeadingDigitsLaws.{count_step}
-use Rattle.json_exact.specs.DecimalInverseLaws.{ten_pos}
-use Rattle.json_exact.specs.NumberInverseLaws.{signed_times, sign_abs}
+use Rattle.json_exact.specs.inner.LeadingDigitsLaws.{count_step}
+use Rattle.json_exact.specs.inner.DecimalInverseLaws.{ten_pos}
+use Rattle.json_exact.specs.inner.NumberInverseLaws.{signed_times, sign_abs}
 use Rattle.json_exact.proofs.CountLaws.{count_cut}
 use Rattle.json_exact.proofs.DigitLaws.{ten_mono}
 use Rattle.json_exact.proofs.SignLaws.{abs_times}
@@ -87,11 +87,13 @@ whole_multiple d k e = (
 pub few_digits : (n place : ℕ) → count n ≤ 16403 → 16383 ≤ place → n / 10 ^ place < 10 ^ 20
 few_digits n place le low =
     let b : n < 10 ^ 16403 = below_count 16403 n le in
-    let m : 10 ^ 16403 ≤ 10 ^ 20 * 10 ^ place = subst (λ (x : ℕ). x ≤ 10 ^ 20 * 10 ^ place) (sym (pow-add 10 20 16383)) (mul-le-mul_left (10 ^ 20) (ten_mono 16383 place low)) in
+    let m : 10 ^ 16403 ≤ 10 ^ 20 * 10 ^ place =
+    subst (λ (x : ℕ). x ≤ 10 ^ 20 * 10 ^ place) (sym (pow-add 10 20 16383)) (mul-le-mul_left (10 ^ 20) (ten_mono 16383 place low)) in
     (div-lt_iff_lt-mul (ten_pos place)).1 (omega arith)
 
 -- what the machine's integer of the whole digits tells
-pub told : {E : Type 0} (d : ℤ) (m : ℕ) (r : Result ℕ E) (o : Option ℕ) → IsWhole (exactly d) → m ≡ nat_abs d / 10 ^ 16383 → OkIff r (m < 2 ^ 64) m → o ≡ result_ok r
+pub told : {E : Type 0} (d : ℤ) (m : ℕ) (r : Result ℕ E) (o : Option ℕ) → IsWhole (exactly d) → m ≡ nat_abs d / 10 ^ 16383 → OkIff r (m < 2 ^ 64) m
+    → o ≡ result_ok r
     → (n : ℕ) → n < 2 ^ 64 → (o ≡ Some n) ↔ (nat_abs d ≡ n * parts)
 told d m (Ok x) o whole read (fits, same) is n lt = (
   λ e. let xn : x ≡ n = some_injective (sym is ∙ e) in whole_quotient d whole ∙ ap (λ (k : ℕ). k * parts) (sym read ∙ sym same ∙ xn),

@@ -3,8 +3,8 @@ use Rattle.std.proofs.Common.{◌≡◌, ℕ, ◌+◌, ◌*◌, ◌/◌, ◌%◌
 use Rattle.std.specs.Prelude.{◌↔◌}
 use Rattle.json_model.specs.Decimal.{HasNarrowDigits}
 use Rattle.json_exact.specs.Digits.{joined, AllBelow}
-use Rattle.json_exact.specs.LeadingDigits.{Keeps}
-use Rattle.json_exact.specs.LeadingDigitsLaws.{joined_below}
+use Rattle.json_exact.specs.inner.LeadingDigits.{Keeps}
+use Rattle.json_exact.specs.inner.LeadingDigitsLaws.{joined_below}
 use Rattle.json_exact.proofs.DigitPlaceLaws.{drop_at, below_at}
 use Rattle.json_exact.proofs.FieldLaws.{none_is}
 use Rattle.json_exact.proofs.GroupLaws.{fours}
@@ -50,7 +50,8 @@ ends (g ∷ gs) c h =
         ∙ ap (λ (ds : List ℕ). get_or (g ∷ gs) 9 0 * 10000 + joined 10000 ds) (drop_at (g ∷ gs) 10 (omega arith))
         ∙ ap (λ (k : ℕ). get_or (g ∷ gs) 9 0 * 10000 + (get_or (g ∷ gs) 10 0 * 10000 ^ k + joined 10000 (drop 11 (g ∷ gs)))) m
         ∙ ap (λ (x : ℕ). get_or (g ∷ gs) 9 0 * 10000 + (get_or (g ∷ gs) 10 0 * 1 + x)) (none (drop 11 (g ∷ gs)) m)
-        ∙ (let e : get_or (g ∷ gs) 9 0 * 10000 + (get_or (g ∷ gs) 10 0 * 1 + 0) ≡ get_or (g ∷ gs) 9 0 * 10000 + get_or (g ∷ gs) 10 0 = omega arith in e)
+        ∙ (let e : get_or (g ∷ gs) 9 0 * 10000 + (get_or (g ∷ gs) 10 0 * 1 + 0) ≡ get_or (g ∷ gs) 9 0 * 10000 + get_or (g ∷ gs) 10 0 = omega arith in
+        e)
 
 -- a number is as narrow as its first groups
 kept_narrow : (gs : List ℕ) (len n : ℕ) → Keeps 10000 10 gs len n → HasNarrowDigits (joined 10000 gs) ↔ HasNarrowDigits n
@@ -81,7 +82,8 @@ one_digit gs len n h lt = elim h.lead [
     e : Ends gs (joined 10000 gs)
     e = ends gs h.count h.below
 
-pub two_digits : (gs : List ℕ) (len n : ℕ) → Keeps 10000 10 gs len n → 10 ≤ get_or gs 0 0 → get_or gs 0 0 < 100 → (eqb (get_or gs 10 0) 0 ≡ true) ↔ HasNarrowDigits n
+pub two_digits : (gs : List ℕ) (len n : ℕ) → Keeps 10000 10 gs len n → 10 ≤ get_or gs 0 0 → get_or gs 0 0 < 100
+    → (eqb (get_or gs 10 0) 0 ≡ true) ↔ HasNarrowDigits n
 two_digits gs len n h lo hi =
     let e = ends gs h.count h.below in
     let f = e.first in
@@ -102,7 +104,8 @@ three_digits gs len n h lo hi =
     let s = sized_narrow gs len n 3 h (omega arith) (omega arith) in
     (λ t. s.0 (joined 10000 gs / 100000, (let t0 = t.0 in let t1 = t.1 in omega arith)), λ a. (let q = (s.1 a).1 in (omega arith, omega arith)))
 
-pub four_digits : (gs : List ℕ) (len n : ℕ) → Keeps 10000 10 gs len n → 1000 ≤ get_or gs 0 0 → ((get_or gs 10 0 ≡ 0) × (get_or gs 9 0 % 100 ≡ 0)) ↔ HasNarrowDigits n
+pub four_digits : (gs : List ℕ) (len n : ℕ) → Keeps 10000 10 gs len n → 1000 ≤ get_or gs 0 0
+    → ((get_or gs 10 0 ≡ 0) × (get_or gs 9 0 % 100 ≡ 0)) ↔ HasNarrowDigits n
 four_digits gs len n h lo =
     let e = ends gs h.count h.below in
     let f = e.first in

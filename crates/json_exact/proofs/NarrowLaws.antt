@@ -4,7 +4,7 @@ use Rattle.std.proofs.Math.Nat.{pow-suc, mul-lt-mul_of_pos_right}
 use Rattle.std.proofs.lemmas.Nat.{pow-add}
 use Rattle.std.proofs.lemmas.Bool.{cases_lt}
 use Rattle.json_model.specs.Decimal.{HasNarrowDigits}
-use Rattle.json_exact.specs.DecimalInverseLaws.{ten_pos}
+use Rattle.json_exact.specs.inner.DecimalInverseLaws.{ten_pos}
 use Rattle.json_exact.proofs.DigitLaws.{ten_mono, factor_last}
 
 ten_step : (k m : ℕ) → m ≡ suc k → 10 ^ m ≡ 10 ^ k * 10
@@ -26,12 +26,14 @@ narrow_less_group n g lt h =
     (narrow_less (n * 10 + g / 1000) (g / 100 % 10) (omega arith)
     (narrow_less ((n * 10 + g / 1000) * 10 + g / 100 % 10) (g / 10 % 10) (omega arith)
     (narrow_less (((n * 10 + g / 1000) * 10 + g / 100 % 10) * 10 + g / 10 % 10) (g % 10) (omega arith)
-    (subst HasNarrowDigits (let e : n * 10000 + g ≡ (((n * 10 + g / 1000) * 10 + g / 100 % 10) * 10 + g / 10 % 10) * 10 + g % 10 = omega arith in e) h))))
+    (subst HasNarrowDigits
+    (let e : n * 10000 + g ≡ (((n * 10 + g / 1000) * 10 + g / 100 % 10) * 10 + g / 10 % 10) * 10 + g % 10 = omega arith in e) h))))
 
 -- a digit that is not 0 behind 38 digits makes a number wide
 pub wide_digit : (n d : ℕ) → 10 ^ 37 ≤ n → d < 10 → (d ≡ 0 → ⊥) → HasNarrowDigits (n * 10 + d) → ⊥
 wide_digit n d big lt some (zero, k, e, small) = some (omega arith)
-wide_digit n d big lt some (suc b, k, e, small) = let f = pow-suc 10 b in let g : k * 10 ^ suc b ≡ k * 10 ^ b * 10 = rw f (omega arith) in some (omega arith)
+wide_digit n d big lt some (suc b, k, e, small) =
+    let f = pow-suc 10 b in let g : k * 10 ^ suc b ≡ k * 10 ^ b * 10 = rw f (omega arith) in some (omega arith)
 
 -- and so does a group that is not 0 behind eleven groups
 pub wide_group : (n g : ℕ) → 10000 ^ 10 ≤ n → g < 10000 → (g ≡ 0 → ⊥) → HasNarrowDigits (n * 10000 + g) → ⊥
@@ -72,6 +74,7 @@ pub zeros_narrow : (n d : ℕ) → 10 ^ (39 + d) ≤ n → HasNarrowDigits n →
 zeros_narrow n d large (b, k, e, small) = elim (cases_lt b (2 + d)) [
   | inl few ↦ absurd (let m = ten_mono (38 + b) (39 + d) (omega arith) in omega arith)
   | inr many ↦
-      let f : 10 ^ b ≡ 10 ^ (b - (2 + d)) * 10 ^ (2 + d) = ap (λ (i : ℕ). 10 ^ i) (let i : b ≡ b - (2 + d) + (2 + d) = omega arith in i) ∙ pow-add 10 (b - (2 + d)) (2 + d) in
+      let f : 10 ^ b ≡ 10 ^ (b - (2 + d)) * 10 ^ (2 + d) =
+      ap (λ (i : ℕ). 10 ^ i) (let i : b ≡ b - (2 + d) + (2 + d) = omega arith in i) ∙ pow-add 10 (b - (2 + d)) (2 + d) in
       (k * 10 ^ (b - (2 + d)), e ∙ ap (λ (x : ℕ). k * x) f ∙ sym (factor_last k (10 ^ (b - (2 + d))) (10 ^ (2 + d))))
 ]

@@ -7,11 +7,11 @@ use Rattle.std.proofs.lemmas.Bool.{ne_eqb, eq-eqb, both_ways}
 use Rattle.std.proofs.lemmas.Nat.{pow-add}
 use Rattle.json_model.specs.Decimal.{Decimal as Written}
 use Rattle.json_exact.specs.Exact.{signed, IsWorth, parts}
-use Rattle.json_exact.specs.NumberFields.{written_with, IsWrittenWith}
+use Rattle.json_exact.specs.inner.NumberFields.{written_with, IsWrittenWith}
 use Rattle.json_exact.specs.declared.number.Number.TheInside.{Inside}
-use Rattle.json_exact.specs.DecimalInverseLaws.{ten_pos}
+use Rattle.json_exact.specs.inner.DecimalInverseLaws.{ten_pos}
 use Rattle.json_exact.proofs.SignLaws.{twice}
-use Rattle.json_exact.specs.NumberInverseLaws.{divided_times}
+use Rattle.json_exact.specs.inner.NumberInverseLaws.{divided_times}
 use Rattle.json_exact.proofs.EqualityLaws.{differ}
 use Rattle.json_exact.proofs.WorthLaws.{one_record, one_value}
 
@@ -20,7 +20,8 @@ worth_of_multiple : (d c : ℤ) (f : ℕ) → f ≤ 16383 → c *ℤ pos (10 ^ (
 unfolding parts
 worth_of_multiple d c f le e =
     let i : 16383 - f + f ≡ 16383 = omega arith in
-    ap (λ (x : ℤ). x *ℤ pos (10 ^ f)) (sym e) ∙ twice c (10 ^ (16383 - f)) (10 ^ f) ∙ ap (λ (x : ℕ). c *ℤ pos x) (sym (pow-add 10 (16383 - f) f) ∙ ap (λ (k : ℕ). 10 ^ k) i)
+    ap (λ (x : ℤ). x *ℤ pos (10 ^ f)) (sym e) ∙ twice c (10 ^ (16383 - f)) (10 ^ f)
+    ∙ ap (λ (x : ℕ). c *ℤ pos x) (sym (pow-add 10 (16383 - f) f) ∙ ap (λ (k : ℕ). 10 ^ k) i)
 
 pub worth_of : (n : Inside) (w : Written) → IsWrittenWith n → written_with n ≡ w → IsWorth n.decimal w
 unfolding written_with
@@ -33,14 +34,17 @@ unfolding written_with
 places_of n w e = ap (λ (w : Written). w.places) e
 
 -- numbers are compared by their fields
-pub apart : (n m : Inside) (w v : Written) → written_with n ≡ w → written_with m ≡ v → (n.fraction_digits ≡ m.fraction_digits → ⊥) → false ≡ (int_eq w.digits v.digits && eqb w.places v.places)
-apart n m w v e f h = sym (no (int_eq w.digits v.digits) (eqb w.places v.places) (ne_eqb w.places v.places (λ g. h (places_of n w e ∙ g ∙ sym (places_of m v f)))))
+pub apart : (n m : Inside) (w v : Written) → written_with n ≡ w → written_with m ≡ v → (n.fraction_digits ≡ m.fraction_digits → ⊥)
+    → false ≡ (int_eq w.digits v.digits && eqb w.places v.places)
+apart n m w v e f h =
+    sym (no (int_eq w.digits v.digits) (eqb w.places v.places) (ne_eqb w.places v.places (λ g. h (places_of n w e ∙ g ∙ sym (places_of m v f)))))
   where
     no : (a b : Bool) → b ≡ false → (a && b) ≡ false
     no true b e = e
     no false b e = refl
 
-pub compared : (n m : Inside) (w v : Written) (r : Bool) → IsWrittenWith n → written_with n ≡ w → IsWrittenWith m → written_with m ≡ v → n.fraction_digits ≡ m.fraction_digits
+pub compared : (n m : Inside) (w v : Written) (r : Bool) → IsWrittenWith n → written_with n ≡ w → IsWrittenWith m → written_with m ≡ v
+    → n.fraction_digits ≡ m.fraction_digits
     → r ≡ int_eq n.decimal m.decimal → r ≡ (int_eq w.digits v.digits && eqb w.places v.places)
 compared n m w v r h e g f same s = s ∙ go (int_eq n.decimal m.decimal) refl
   where
@@ -48,7 +52,8 @@ compared n m w v r h e g f same s = s ∙ go (int_eq n.decimal m.decimal) refl
     p = sym (places_of n w e) ∙ same ∙ places_of m v f
 
     worths : n.decimal ≡ m.decimal → w.digits ≡ v.digits
-    worths d = ap (λ (u : Written). u.digits) (one_record n.decimal w v (worth_of n w h e) (subst (λ (x : ℤ). IsWorth x v) (sym d) (worth_of m v g f)) p)
+    worths d =
+        ap (λ (u : Written). u.digits) (one_record n.decimal w v (worth_of n w h e) (subst (λ (x : ℤ). IsWorth x v) (sym d) (worth_of m v g f)) p)
 
     digits : w.digits ≡ v.digits → n.decimal ≡ m.decimal
     digits d = one_value n.decimal m.decimal w (worth_of n w h e)

@@ -10,10 +10,10 @@ use Rattle.std.proofs.lemmas.Cmp.{ranked}
 use Rattle.std.proofs.Math.Nat.{mul-lt-mul_of_pos_right, mul-le-mul_right}
 use Rattle.std.proofs.lemmas.Bool.{le-ltb}
 use Rattle.json_exact.specs.Digits.{joined, AllBelow}
-use Rattle.json_exact.specs.DecimalFields.{parts_of, IsFields}
-use Rattle.json_exact.specs.LeadingDigits.{Keeps}
-use Rattle.json_exact.specs.LeadingDigitsLaws.{power_pos, joined_below, below_len, from_len}
-use Rattle.json_exact.specs.DecimalInverseLaws.{some_parts, sign_back}
+use Rattle.json_exact.specs.inner.DecimalFields.{parts_of, IsFields}
+use Rattle.json_exact.specs.inner.LeadingDigits.{Keeps}
+use Rattle.json_exact.specs.inner.LeadingDigitsLaws.{power_pos, joined_below, below_len, from_len}
+use Rattle.json_exact.specs.inner.DecimalInverseLaws.{some_parts, sign_back}
 use Rattle.json_exact.specs.declared.decimal.Decimal.TheInside.{Inside}
 use Rattle.json_exact.proofs.DigitLaws.{power_mono}
 use Rattle.json_exact.proofs.WholeLaws.{Sized, sized}
@@ -27,7 +27,8 @@ above : (x y j k p : ℕ) → j < p → x < y → x * p + j < y * p + k
 above x y j k p a h = let m : (x + 1) * p ≤ y * p = mul-le-mul_right p (omega arith) in omega arith
 
 -- the order of the high digits x and y decides, then that of what stands behind them, j and k
-pub high_then_low : (o s : Ordering) (x y j k p : ℕ) → j < p → k < p → Orders o x y → Orders s j k → Orders (ordering_then o s) (x * p + j) (y * p + k)
+pub high_then_low : (o s : Ordering) (x y j k p : ℕ) → j < p → k < p → Orders o x y → Orders s j k
+    → Orders (ordering_then o s) (x * p + j) (y * p + k)
 high_then_low Less s x y j k p a b h g = above x y j k p a h
 high_then_low Greater s x y j k p a b h g = above y x k j p b h
 high_then_low Equal Less x y j k p a b h g = rw h (omega arith)
@@ -35,7 +36,8 @@ high_then_low Equal Equal x y j k p a b h g = rw h (omega arith)
 high_then_low Equal Greater x y j k p a b h g = rw h (omega arith)
 
 -- of two numbers with as many digits, the first digits that differ decide
-pub digits_order : (b : ℕ) (xs ys : List ℕ) → AllBelow b xs → AllBelow b ys → length xs ≡ length ys → Orders (slice_cmp nat_cmp xs ys) (joined b xs) (joined b ys)
+pub digits_order : (b : ℕ) (xs ys : List ℕ) → AllBelow b xs → AllBelow b ys → length xs ≡ length ys
+    → Orders (slice_cmp nat_cmp xs ys) (joined b xs) (joined b ys)
 digits_order b [] [] h g e = refl
 digits_order b [] (y ∷ ys) h g e = absurd (omega arith)
 digits_order b (x ∷ xs) [] h g e = absurd (omega arith)
@@ -43,7 +45,8 @@ digits_order b (x ∷ xs) (y ∷ ys) h g e =
     let l : length xs ≡ length ys = omega arith in
     let small : joined b ys < b ^ length xs = subst (λ (n : ℕ). joined b ys < b ^ n) (sym l) (joined_below b ys g.1) in
     subst (λ (n : ℕ). Orders (slice_cmp nat_cmp (x ∷ xs) (y ∷ ys)) (joined b (x ∷ xs)) (y * b ^ n + joined b ys)) l
-    (high_then_low (nat_cmp x y) (slice_cmp nat_cmp xs ys) x y (joined b xs) (joined b ys) (b ^ length xs) (joined_below b xs h.1) small (ranks x y) (digits_order b xs ys h.1 g.1 l))
+    (high_then_low (nat_cmp x y) (slice_cmp nat_cmp xs ys) x y (joined b xs) (joined b ys) (b ^ length xs) (joined_below b xs h.1) small (ranks x y)
+    (digits_order b xs ys h.1 g.1 l))
 
 -- the groups of numbers with as many groups are in the order of the numbers
 scaled : (o : Ordering) (j k q r p : ℕ) → 0 < p → q * 10 * 10000 ^ 11 ≡ j * p → r * 10 * 10000 ^ 11 ≡ k * p → Orders o j k → Orders o q r
@@ -61,11 +64,13 @@ longer a b x y q r s t lt =
     omega arith
 
 -- the count of groups decides
-pub magnitudes_by_top : (a b : Inside) (x y : ℤ) → IsFields a → parts_of a ≡ x → IsFields b → parts_of b ≡ y → (a.top ≡ b.top → ⊥) → nat_cmp a.top b.top ≡ nat_cmp (nat_abs x) (nat_abs y)
+pub magnitudes_by_top : (a b : Inside) (x y : ℤ) → IsFields a → parts_of a ≡ x → IsFields b → parts_of b ≡ y → (a.top ≡ b.top → ⊥)
+    → nat_cmp a.top b.top ≡ nat_cmp (nat_abs x) (nat_abs y)
 magnitudes_by_top a b x y h e g f ne =
     let (q, s) = sized a x h e in
     let (r, t) = sized b y g f in
-    nat_cmp_is q r _ (go (nat_cmp a.top b.top) q r s t (ranks a.top b.top)) ∙ ap (λ (z : ℕ). nat_cmp z r) (sym s.abs) ∙ ap (λ (z : ℕ). nat_cmp (nat_abs x) z) (sym t.abs)
+    nat_cmp_is q r _ (go (nat_cmp a.top b.top) q r s t (ranks a.top b.top)) ∙ ap (λ (z : ℕ). nat_cmp z r) (sym s.abs)
+    ∙ ap (λ (z : ℕ). nat_cmp (nat_abs x) z) (sym t.abs)
   where
     go : (o : Ordering) (q r : ℕ) → Sized a x q → Sized b y r → Orders o a.top b.top → Orders o q r
     go Less q r s t lt = longer a b x y q r s t lt
@@ -79,7 +84,8 @@ magnitudes_by_groups a b x y h e g f same =
     let (q, s) = sized a x h e in
     let (r, t) = sized b y g f in
     nat_cmp_is q r _
-    (scaled (slice_cmp nat_cmp a.groups b.groups) (joined 10000 a.groups) (joined 10000 b.groups) q r (10000 ^ a.top) (power_pos 10000 a.top (omega arith)) s.keeps.size
+    (scaled (slice_cmp nat_cmp a.groups b.groups) (joined 10000 a.groups) (joined 10000 b.groups) q r (10000 ^ a.top)
+    (power_pos 10000 a.top (omega arith)) s.keeps.size
     (t.keeps.size ∙ ap (λ (k : ℕ). joined 10000 b.groups * 10000 ^ k) (sym same))
     (digits_order 10000 a.groups b.groups s.keeps.below t.keeps.below (s.keeps.count ∙ sym t.keeps.count)))
     ∙ ap (λ (z : ℕ). nat_cmp z r) (sym s.abs) ∙ ap (λ (z : ℕ). nat_cmp (nat_abs x) z) (sym t.abs)

@@ -4,10 +4,10 @@ use Rattle.std.specs.Prelude.{◌↔◌, Some, Result, Ok, Err, MatchResult}
 use Rattle.json_model.specs.Decimal.{Decimal as Written, IsNarrow}
 use Rattle.json_exact.specs.Exact.{IsWorth}
 use Rattle.json_exact.specs.Literal.{number, placed, IsLiteral}
-use Rattle.json_exact.specs.LiteralParts.{AreKept, IsRead, IsFault, IsRefused}
+use Rattle.json_exact.specs.inner.LiteralParts.{AreKept, IsRead, IsFault, IsRefused}
 use Rattle.json_exact.specs.Parsed.{IsNumber, IsInRange, IsTooWide, IsOutOfRange}
-use Rattle.json_exact.specs.Reading.{Parts, capped, literal_of}
-use Rattle.json_exact.specs.SignificantDigits.{Holds}
+use Rattle.json_exact.specs.inner.Reading.{Parts, capped, literal_of}
+use Rattle.json_exact.specs.inner.SignificantDigits.{Holds}
 use Rattle.json_exact.specs.declared.literal.Literal.{Literal}
 use Rattle.json_exact.specs.declared.number_error.NumberError.{NumberError}
 use Rattle.json_exact.specs.declared.number_error.NumberError.TheVariants.{NotANumber, TooWide, OutOfRange}
@@ -38,7 +38,8 @@ kept_literal text bytes l e (p, f, k) = record {
         ∙ ap (λ (b : Bool). placed p.negative (number (p.whole ++ p.fraction)) (length p.fraction) b p.exponent.1) k.down)
 
 -- the answer of a literal is that of its text
-pub answer : (r : Result (ℤ × ℕ) NumberError) (text : List ℕ) (w : Written) → IsLiteral text w → MatchResult r (λ x. IsRead x.0 x.1 w) (λ e. IsFault e w)
+pub answer : (r : Result (ℤ × ℕ) NumberError) (text : List ℕ) (w : Written) → IsLiteral text w
+    → MatchResult r (λ x. IsRead x.0 x.1 w) (λ e. IsFault e w)
     → MatchResult r (λ x. (w : Written) × IsNumber text w × IsWorth x.0 w × (x.1 ≡ w.places)) (λ e. IsRefused e text)
 answer (Ok x) text w l h = (w, record { literal = l; narrow = h.narrow; in_range = h.in_range }, h.worth, h.places_are)
 answer (Err NotANumber) text w l h = absurd h
@@ -71,8 +72,13 @@ pub ok_not_refused : {A : Type 0} (a : A) (e : NumberError) (text : List ℕ) �
 ok_not_refused a e text h = (λ f. cc, λ refused. absurd (not_refused e text h refused))
 
 -- an error is the reason why the text is refused
-pub err_refused : {A : Type 0} (r : Result A NumberError) (f e : NumberError) (text : List ℕ) → r ≡ Err f → IsRefused f text → (r ≡ Err e) ↔ IsRefused e text
-err_refused {A} r f e text g h = (λ same. subst (λ (x : NumberError). IsRefused x text) (inside (sym g ∙ same)) h, λ k. g ∙ ap (λ (x : NumberError). Err x) (one_reason f e text h k))
+pub err_refused : {A : Type 0} (r : Result A NumberError) (f e : NumberError) (text : List ℕ) → r ≡ Err f → IsRefused f text
+    → (r ≡ Err e) ↔ IsRefused e text
+err_refused {A} r f e text g h = (
+  λ same. subst (λ (x : NumberError). IsRefused x text) (inside (sym g ∙ same)) h,
+  λ k. g
+      ∙ ap (λ (x : NumberError). Err x) (one_reason f e text h k),
+)
   where
     inside : ◌≡◌ {A = Result A NumberError} (Err f) (Err e) → f ≡ e
     inside g = cc

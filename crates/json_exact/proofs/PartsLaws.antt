@@ -12,7 +12,7 @@ use Rattle.json_exact.specs.DecimalGroups.{IsScaled}
 use Rattle.json_exact.proofs.DigitLaws.{factor_last}
 use Rattle.json_exact.proofs.GroupLaws.{fours}
 use Rattle.json_exact.proofs.NarrowLaws.{narrow_more, narrow_back}
-use Rattle.json_exact.specs.DecimalFields.{parts_of, IsFields}
+use Rattle.json_exact.specs.inner.DecimalFields.{parts_of, IsFields}
 use Rattle.json_exact.specs.declared.decimal.Decimal.TheInside.{Inside}
 use Rattle.json_exact.proofs.GroupPlaceLaws.{up_to, zero_is, take_joined}
 use Rattle.json_exact.proofs.WholeLaws.{sized, AreZeros}
@@ -37,7 +37,8 @@ take_mono b ds i (suc j) some le few = elim (cases_lt i (suc j)) [
 -- a narrow number that does not end in 0 has at most 38 digits
 pub small_mantissa : (m : ℕ) → HasNarrowDigits m → 0 < m % 10 → m < 10 ^ 38
 small_mantissa m (zero, k, e, small) some = omega arith
-small_mantissa m (suc b, k, e, small) some = absurd (let f : k * 10 ^ suc b ≡ k * 10 ^ b * 10 = ap (λ (x : ℕ). k * x) (pow-suc 10 b) ∙ sym (factor_last k (10 ^ b) 10) in omega arith)
+small_mantissa m (suc b, k, e, small) some =
+    absurd (let f : k * 10 ^ suc b ≡ k * 10 ^ b * 10 = ap (λ (x : ℕ). k * x) (pow-suc 10 b) ∙ sym (factor_last k (10 ^ b) 10) in omega arith)
 
 -- ten times q parts are m, moved up by z digits and t groups; e is the power of ten
 pub scaled_by : (q m z t : ℕ) (e : ℤ) → q * 10 ≡ m * 10 ^ z * 10000 ^ t → e +ℤ pos 16384 ≡ pos (4 * t + z) → IsScaled q m e
@@ -61,7 +62,8 @@ scaled_by q m z t e h at = λ up l f.
     last m l p = omega arith
 
 -- a mantissa of groups: those before the last as one number, and the last without its zeros
-pub mantissa_is : (before group digits zeros scale : ℕ) → group ≡ digits * 10 ^ zeros → scale * 10 ^ zeros ≡ 10000 → (before * scale + digits) * 10 ^ zeros ≡ before * 10000 + group
+pub mantissa_is : (before group digits zeros scale : ℕ) → group ≡ digits * 10 ^ zeros → scale * 10 ^ zeros ≡ 10000
+    → (before * scale + digits) * 10 ^ zeros ≡ before * 10000 + group
 mantissa_is before group digits zeros scale e f = step before group digits (10 ^ zeros) scale e f
   where
     step : (b g d p s : ℕ) → g ≡ d * p → s * p ≡ 10000 → (b * s + d) * p ≡ b * 10000 + g
@@ -79,7 +81,8 @@ pub record Made (q m z t : ℕ) : Type 0 where
   pub small : m < 10 ^ 38
   pub last : 0 < m % 10
 
-pub made : (a : Inside) (d : ℤ) (last digits zeros scale : ℕ) → IsFields a → parts_of a ≡ d → last < 11 → 0 < get_or a.groups last 0 → AreZeros (drop (suc last) a.groups)
+pub made : (a : Inside) (d : ℤ) (last digits zeros scale : ℕ) → IsFields a → parts_of a ≡ d → last < 11 → 0 < get_or a.groups last 0
+    → AreZeros (drop (suc last) a.groups)
     → get_or a.groups last 0 ≡ digits * 10 ^ zeros → scale * 10 ^ zeros ≡ 10000 → scale % 10 ≡ 0 → 0 < digits % 10
     → Made (nat_abs d) (joined 10000 (take last a.groups) * scale + digits) zeros (a.top - 1 - last)
 made a d last digits zeros scale h e lt some none group full round end =
@@ -92,10 +95,12 @@ made a d last digits zeros scale h e lt some none group full round end =
     let moved : q * 10 ≡ m * 10 ^ zeros * 10000 ^ t =
     u.exact ∙ ap (λ (k : ℕ). joined 10000 (take (suc last) a.groups) * 10000 ^ k) i
     ∙ ap (λ (x : ℕ). x * 10000 ^ t)
-    (take_joined 10000 last a.groups few ∙ sym (mantissa_is (joined 10000 (take last a.groups)) (get_or a.groups last 0) digits zeros scale group full)) in
+    (take_joined 10000 last a.groups few
+    ∙ sym (mantissa_is (joined 10000 (take last a.groups)) (get_or a.groups last 0) digits zeros scale group full)) in
     let ends = mantissa_last (joined 10000 (take last a.groups)) digits scale round end in
     let narrow : HasNarrowDigits (m * 10 ^ (zeros + 4 * t)) = subst HasNarrowDigits
-    (moved ∙ ap (λ (x : ℕ). m * 10 ^ zeros * x) (fours t) ∙ factor_last m (10 ^ zeros) (10 ^ (4 * t)) ∙ ap (λ (x : ℕ). m * x) (sym (pow-add 10 zeros (4 * t)))) (narrow_more q 1 s.narrow) in
+    (moved ∙ ap (λ (x : ℕ). m * 10 ^ zeros * x) (fours t) ∙ factor_last m (10 ^ zeros) (10 ^ (4 * t))
+    ∙ ap (λ (x : ℕ). m * x) (sym (pow-add 10 zeros (4 * t)))) (narrow_more q 1 s.narrow) in
     record {
       moved = ap (λ (x : ℕ). x * 10) s.abs ∙ moved;
       small = small_mantissa m (narrow_back m (zeros + 4 * t) narrow) ends;

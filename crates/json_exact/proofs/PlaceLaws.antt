@@ -6,12 +6,12 @@ use Rattle.std.proofs.lemmas.Nat.{pow-add}
 use Rattle.json_model.specs.Decimal.{HasNarrowDigits}
 use Rattle.json_exact.specs.Exact.{IsWorth, signed, parts}
 use Rattle.json_exact.specs.Digits.{joined}
-use Rattle.json_exact.specs.DecimalInverseLaws.{ten_pos, abs_signed}
-use Rattle.json_exact.specs.LeadingDigitsLaws.{joined_small}
-use Rattle.json_exact.specs.NumberInverseLaws.{signed_times}
-use Rattle.json_exact.specs.LeadingDigits.{Keeps}
-use Rattle.json_exact.specs.Reading.{capped}
-use Rattle.json_exact.specs.LiteralParts.{IsRead, IsFault}
+use Rattle.json_exact.specs.inner.DecimalInverseLaws.{ten_pos, abs_signed}
+use Rattle.json_exact.specs.inner.LeadingDigitsLaws.{joined_small}
+use Rattle.json_exact.specs.inner.NumberInverseLaws.{signed_times}
+use Rattle.json_exact.specs.inner.LeadingDigits.{Keeps}
+use Rattle.json_exact.specs.inner.Reading.{capped}
+use Rattle.json_exact.specs.inner.LiteralParts.{IsRead, IsFault}
 use Rattle.json_exact.specs.declared.number_error.NumberError.TheVariants.{OutOfRange}
 use Rattle.json_exact.proofs.DigitLaws.{ten_mono}
 use Rattle.json_exact.proofs.NarrowLaws.{narrow_more, narrow_back}
@@ -20,7 +20,12 @@ use Rattle.json_exact.proofs.NarrowLaws.{narrow_more, narrow_back}
 kept_narrow : (ds : List ℕ) (len n : ℕ) → Keeps 10 37 ds len n → HasNarrowDigits n
 kept_narrow ds len n h =
     let below : joined 10 ds * 10 ^ len < 10 ^ 38 * 10 ^ len = mul-lt-mul_of_pos_right (joined_small 10 37 (omega arith) ds len n h) (ten_pos len) in
-    narrow_back n 38 (len, joined 10 ds, h.size, subst (λ (x : ℕ). n * 10 ^ 38 < x) (sym (pow-add 10 38 len)) (subst (λ (x : ℕ). x < 10 ^ 38 * 10 ^ len) (sym h.size) below))
+    narrow_back n 38 (
+      len,
+      joined 10 ds,
+      h.size,
+      subst (λ (x : ℕ). n * 10 ^ 38 < x) (sym (pow-add 10 38 len)) (subst (λ (x : ℕ). x < 10 ^ 38 * 10 ^ len) (sym h.size) below),
+    )
 
 -- a number has no more digits than are counted
 pub below_top : (ds : List ℕ) (len n : ℕ) → Keeps 10 37 ds len n → n < 10 ^ len
@@ -51,13 +56,15 @@ large n len up k ge lt =
     let f = pow-suc 10 k in
     omega arith
 
-worth : (m : Bool) (n up f : ℕ) → f ≤ 16383 → IsWorth (signed m (n * 10 ^ (up + (16383 - f)))) (record { digits = signed m (n * 10 ^ up); places = f })
+worth : (m : Bool) (n up f : ℕ) → f ≤ 16383
+    → IsWorth (signed m (n * 10 ^ (up + (16383 - f)))) (record { digits = signed m (n * 10 ^ up); places = f })
 unfolding parts
 worth m n up f le =
     signed_times m (n * 10 ^ (up + (16383 - f))) (10 ^ f)
     ∙ ap (λ (x : ℕ). signed m x)
     (products n (10 ^ (up + (16383 - f))) (10 ^ f)
-    ∙ ap (λ (x : ℕ). n * x) (sym (pow-add 10 (up + (16383 - f)) f) ∙ ap (λ (k : ℕ). 10 ^ k) i ∙ pow-add 10 up 16383) ∙ sym (products n (10 ^ up) (10 ^ 16383)))
+    ∙ ap (λ (x : ℕ). n * x) (sym (pow-add 10 (up + (16383 - f)) f) ∙ ap (λ (k : ℕ). 10 ^ k) i ∙ pow-add 10 up 16383)
+    ∙ sym (products n (10 ^ up) (10 ^ 16383)))
     ∙ sym (signed_times m (n * 10 ^ up) (10 ^ 16383))
   where
     products : (x y z : ℕ) → x * y * z ≡ x * (y * z)
@@ -73,7 +80,8 @@ narrow_at : (m : Bool) (ds : List ℕ) (len n up : ℕ) → Keeps 10 37 ds len n
 narrow_at m ds len n up h = subst HasNarrowDigits (sym (abs_signed m (n * 10 ^ up))) (narrow_more n up (kept_narrow ds len n h))
 
 -- a number that is in range is read
-pub read_some : (m : Bool) (ds : List ℕ) (len n up f : ℕ) (d : ℤ) (p : ℕ) → Keeps 10 37 ds len n → f ≤ 16383 → len + up ≤ 131072 + f → d ≡ signed m (n * 10 ^ (up + (16383 - f))) → p ≡ f
+pub read_some : (m : Bool) (ds : List ℕ) (len n up f : ℕ) (d : ℤ) (p : ℕ) → Keeps 10 37 ds len n → f ≤ 16383 → len + up ≤ 131072 + f
+    → d ≡ signed m (n * 10 ^ (up + (16383 - f))) → p ≡ f
     → IsRead d p (record { digits = signed m (n * 10 ^ up); places = f })
 read_some m ds len n up f d p h le fits e g = record {
   narrow = narrow_at m ds len n up h;
@@ -92,16 +100,19 @@ read_none m ds n up f d p h le e g =
     record {
       narrow = narrow_at m ds 0 n up h;
       in_range = (abs_at m n up (131072 + f) (let p = ten_pos (131072 + f) in omega arith), le);
-      worth = subst (λ (x : ℤ). IsWorth x (record { digits = signed m (n * 10 ^ up); places = f })) (ap (λ (x : ℕ). signed m x) b ∙ sym e) (worth m n up f le);
+      worth = subst (λ (x : ℤ). IsWorth x (record { digits = signed m (n * 10 ^ up); places = f })) (ap (λ (x : ℕ). signed m x) b ∙ sym e)
+          (worth m n up f le);
       places_are = g;
     }
 
 -- too many fraction digits are out of range
-pub fault_places : (m : Bool) (ds : List ℕ) (len n up f : ℕ) → Keeps 10 37 ds len n → 16383 < f → IsFault OutOfRange (record { digits = signed m (n * 10 ^ up); places = f })
+pub fault_places : (m : Bool) (ds : List ℕ) (len n up f : ℕ) → Keeps 10 37 ds len n → 16383 < f
+    → IsFault OutOfRange (record { digits = signed m (n * 10 ^ up); places = f })
 fault_places m ds len n up f h lt = (narrow_at m ds len n up h, λ r. let l = r.1 in omega arith)
 
 -- too large a number is out of range
-pub fault_high : (m : Bool) (ds : List ℕ) (len n up f : ℕ) → 0 < len → Keeps 10 37 ds len n → 131072 + f < len + up → IsFault OutOfRange (record { digits = signed m (n * 10 ^ up); places = f })
+pub fault_high : (m : Bool) (ds : List ℕ) (len n up f : ℕ) → 0 < len → Keeps 10 37 ds len n → 131072 + f < len + up
+    → IsFault OutOfRange (record { digits = signed m (n * 10 ^ up); places = f })
 fault_high m ds len n up f some h lt = (
   narrow_at m ds len n up h,
   λ r.
@@ -113,13 +124,15 @@ fault_high m ds len n up f some h lt = (
 -- The exponent is kept up to a size that no text's length reaches.
 
 -- few fraction digits are those of the literal
-pub places_same : (down : Bool) (count size e p : ℕ) → e ≡ capped size → count < 2 ^ 63 → p ≡ (if down then capped (count + e) else count - e) → p ≤ 16383
+pub places_same : (down : Bool) (count size e p : ℕ) → e ≡ capped size → count < 2 ^ 63 → p ≡ (if down then capped (count + e) else count - e)
+    → p ≤ 16383
     → p ≡ (if down then count + size else count - size)
 places_same true count size e p h lt g le = omega arith
 places_same false count size e p h lt g le = omega arith
 
 -- where many are counted, the literal has many
-pub places_many : (down : Bool) (count size e p : ℕ) → e ≡ capped size → count < 2 ^ 63 → p ≡ (if down then capped (count + e) else count - e) → 16383 < p
+pub places_many : (down : Bool) (count size e p : ℕ) → e ≡ capped size → count < 2 ^ 63 → p ≡ (if down then capped (count + e) else count - e)
+    → 16383 < p
     → 16383 < (if down then count + size else count - size)
 places_many true count size e p h lt g le = omega arith
 places_many false count size e p h lt g le = omega arith

@@ -7,9 +7,9 @@ use Rattle.std.proofs.Common.{get_or-set_other}
 use Rattle.std.proofs.Math.ListN.{length-set}
 use Rattle.json_model.specs.Decimal.{HasNarrowDigits}
 use Rattle.json_exact.specs.Digits.{joined, AllBelow}
-use Rattle.json_exact.specs.LeadingDigits.{Keeps}
-use Rattle.json_exact.specs.LeadingDigitsLaws.{from_len}
-use Rattle.json_exact.specs.SignificantDigits.{Pushed, kept, lost}
+use Rattle.json_exact.specs.inner.LeadingDigits.{Keeps}
+use Rattle.json_exact.specs.inner.LeadingDigitsLaws.{from_len}
+use Rattle.json_exact.specs.inner.SignificantDigits.{Pushed, kept, lost}
 use Rattle.json_exact.proofs.DigitLaws.{power_mono, above_none}
 
 below_set : (b d : ℕ) (ds : List ℕ) (i : ℕ) → AllBelow b ds → d < b → AllBelow b (set ds i d)
@@ -35,7 +35,8 @@ module _ (b more : ℕ) (two : 1 < b) where
       let r = more - len in
       let i : length ds ≡ len + suc r = let c = h.count in omega arith in
       let j : joined b (set ds len d) ≡ joined b ds + d * b ^ r = joined_set b d ds len r i (rest len (omega arith)) in
-      let p : b ^ r * b ^ (len + 1) ≡ b ^ suc more = (let e : r + (len + 1) ≡ suc more = omega arith in sym (pow-add b r (len + 1)) ∙ ap (λ (k : ℕ). b ^ k) e) in
+      let p : b ^ r * b ^ (len + 1) ≡ b ^ suc more =
+      (let e : r + (len + 1) ≡ suc more = omega arith in sym (pow-add b r (len + 1)) ∙ ap (λ (k : ℕ). b ^ k) e) in
       let q : b ^ (len + 1) ≡ b ^ len * b = ap (λ (k : ℕ). b ^ k) (let e : len + 1 ≡ suc len = omega arith in e) ∙ pow-suc b len in
       kept
       (record {
@@ -66,7 +67,8 @@ module _ (b more : ℕ) (two : 1 < b) where
   put ds len true d n lt small some (lost h) = let m = h.many in absurd (omega arith)
 
   -- a 0 behind the slots is known without one
-  pub put_zero : (ds : List ℕ) (len : ℕ) (w : Bool) (n : ℕ) → more < len → (HasNarrowDigits (n * b + 0) → HasNarrowDigits n) → Pushed b more ds len w n → Pushed b more ds (len + 1) w (n * b + 0)
+  pub put_zero : (ds : List ℕ) (len : ℕ) (w : Bool) (n : ℕ) → more < len → (HasNarrowDigits (n * b + 0) → HasNarrowDigits n)
+      → Pushed b more ds len w n → Pushed b more ds (len + 1) w (n * b + 0)
   put_zero ds len false n le less (kept h rest) =
       let q : b ^ (len + 1) ≡ b ^ len * b = ap (λ (k : ℕ). b ^ k) (let e : len + 1 ≡ suc len = omega arith in e) ∙ pow-suc b len in
       kept

@@ -3,7 +3,7 @@ use Rattle.std.proofs.Common.{◌≡◌, ℕ, zero, suc, ◌<◌, ◌⊎◌, Boo
 use Rattle.std.specs.Prelude.{◌&&◌, ◌||◌, not, Option, Some, None, if◌then◌else◌}
 use Rattle.std.proofs.lemmas.Bool.{and_parts, and_from, or_cases, eqb-true, eqb-false, eq-eqb, ne_eqb, lt-ltb, ltb-true}
 use Rattle.json_exact.specs.Literal.{IsDigit, AreDigits, number, IsMinus, IsWholePart, IsFraction, IsExponentSign, IsExponent}
-use Rattle.json_exact.specs.Reading.{is_digit, digit_count, all_digits, minus_of, is_whole_part, some_digits_of, whole_of, fraction_of, exponent_sign_of, size_of, exponent_with, exponent_of}
+use Rattle.json_exact.specs.inner.Reading.{is_digit, digit_count, all_digits, minus_of, is_whole_part, some_digits_of, whole_of, fraction_of, exponent_sign_of, size_of, exponent_with, exponent_of}
 use Rattle.json_exact.proofs.DigitTextLaws.{is_digit_from, front_digits, count_none, all_are, are_all}
 
 abbrev NoDigit : List ℕ → Type 0
@@ -11,7 +11,9 @@ NoDigit rest = is_digit (get_or rest 0 0) ≡ false
 
 count_all : (ds rest : List ℕ) → AreDigits ds → NoDigit rest → digit_count (ds ++ rest) ≡ length ds
 count_all [] rest h n = count_none rest n
-count_all (d ∷ ds) rest h n = ap (λ (t : Bool). elim t as (λ _. ℕ) [ true ↦ suc (digit_count (ds ++ rest)) | false ↦ 0 ]) (is_digit_from d h.0) ∙ ap (λ (k : ℕ). suc k) (count_all ds rest h.1 n)
+count_all (d ∷ ds) rest h n =
+    ap (λ (t : Bool). elim t as (λ _. ℕ) [ true ↦ suc (digit_count (ds ++ rest)) | false ↦ 0 ]) (is_digit_from d h.0)
+    ∙ ap (λ (k : ℕ). suc k) (count_all ds rest h.1 n)
 
 front_of : (ds rest : List ℕ) → take (length ds) (ds ++ rest) ≡ ds
 front_of [] rest = refl
@@ -58,10 +60,11 @@ whole_part_takes [] h e = absurd cc
 whole_part_takes (c ∷ cs) h e = (
   h.0,
   h.1,
-  λ z. elim (or_cases (not (eqb c 48)) (eqb (length (c ∷ cs)) 1) (and_parts (ltb 0 (length (c ∷ cs))) (not (eqb c 48) || eqb (length (c ∷ cs)) 1) e).1) [
-    | inl a ↦ absurd (no (eqb c 48) (eq-eqb c 48 z) a)
-    | inr a ↦ nil_of cs (let l : length (c ∷ cs) ≡ 1 = eqb-true (length (c ∷ cs)) 1 a in omega arith)
-  ],
+  λ z. elim (or_cases (not (eqb c 48)) (eqb (length (c ∷ cs)) 1)
+      (and_parts (ltb 0 (length (c ∷ cs))) (not (eqb c 48) || eqb (length (c ∷ cs)) 1) e).1) [
+        | inl a ↦ absurd (no (eqb c 48) (eq-eqb c 48 z) a)
+        | inr a ↦ nil_of cs (let l : length (c ∷ cs) ≡ 1 = eqb-true (length (c ∷ cs)) 1 a in omega arith)
+      ],
 )
   where
     no : (t : Bool) → t ≡ true → not t ≡ true → ⊥
@@ -74,7 +77,9 @@ whole_part_again [] h = absurd h
 whole_part_again (c ∷ cs) h = go (eqb c 48) refl
   where
     go : (t : Bool) → eqb c 48 ≡ t → (ltb 0 (length (c ∷ cs)) && (not t || eqb (length (c ∷ cs)) 1)) ≡ true
-    go true e = and_from (ltb 0 (length (c ∷ cs))) (eqb (length (c ∷ cs)) 1) (lt-ltb 0 (length (c ∷ cs)) (omega arith)) (ap (λ (xs : List ℕ). eqb (length (c ∷ xs)) 1) (h.2 (eqb-true c 48 e)))
+    go true e =
+        and_from (ltb 0 (length (c ∷ cs))) (eqb (length (c ∷ cs)) 1) (lt-ltb 0 (length (c ∷ cs)) (omega arith))
+        (ap (λ (xs : List ℕ). eqb (length (c ∷ xs)) 1) (h.2 (eqb-true c 48 e)))
     go false e = and_from (ltb 0 (length (c ∷ cs))) true (lt-ltb 0 (length (c ∷ cs)) (omega arith)) refl
 
 are_from_whole : (ds : List ℕ) → IsWholePart ds → AreDigits ds
@@ -96,8 +101,10 @@ whole_takes text r e = go (is_whole_part (take (digit_count text) text)) refl e
     go : (t : Bool) → is_whole_part (take (digit_count text) text) ≡ t
         → (if t then Some (take (digit_count text) text, drop (digit_count text) text) else None) ≡ Some r → Cut text r × IsWholePart r.0
     go true f g = let same : (take (digit_count text) text, drop (digit_count text) text) ≡ r = cc in
-        subst (λ (x : List ℕ × List ℕ). Cut text x × IsWholePart x.0) same
-        (record { text_is = both (digit_count text) text; digits = front_digits text }, whole_part_takes (take (digit_count text) text) (front_digits text) f)
+        subst (λ (x : List ℕ × List ℕ). Cut text x × IsWholePart x.0) same (
+          record { text_is = both (digit_count text) text; digits = front_digits text },
+          whole_part_takes (take (digit_count text) text) (front_digits text) f,
+        )
     go false f g = absurd cc
 
 -- each whole part is read
@@ -122,7 +129,8 @@ some_takes : (text : List ℕ) (r : List ℕ × List ℕ) → some_digits_of tex
 unfolding some_digits_of
 some_takes text r e = go (eqb (digit_count text) 0) refl e
   where
-    go : (t : Bool) → eqb (digit_count text) 0 ≡ t → (if t then None else Some (take (digit_count text) text, drop (digit_count text) text)) ≡ Some r → Cut text r × (0 < length r.0)
+    go : (t : Bool) → eqb (digit_count text) 0 ≡ t → (if t then None else Some (take (digit_count text) text, drop (digit_count text) text)) ≡ Some r
+        → Cut text r × (0 < length r.0)
     go true f g = absurd cc
     go false f g = let same : (take (digit_count text) text, drop (digit_count text) text) ≡ r = cc in
         subst (λ (x : List ℕ × List ℕ). Cut text x × (0 < length x.0)) same
@@ -133,7 +141,8 @@ unfolding some_digits_of
 some_again ds rest h p n =
     let e = count_all ds rest h n in
     ap (λ (k : ℕ). if eqb k 0 then None else Some (take k (ds ++ rest), drop k (ds ++ rest))) e
-    ∙ ap (λ (t : Bool). if t then None else Some (take (length ds) (ds ++ rest), drop (length ds) (ds ++ rest))) (ne_eqb (length ds) 0 (λ z. absurd (omega arith)))
+    ∙ ap (λ (t : Bool). if t then None else Some (take (length ds) (ds ++ rest), drop (length ds) (ds ++ rest)))
+    (ne_eqb (length ds) 0 (λ z. absurd (omega arith)))
     ∙ ap (λ (xs : List ℕ). Some (xs, drop (length ds) (ds ++ rest))) (front_of ds rest)
     ∙ ap (λ (xs : List ℕ). Some (ds, xs)) (back_of ds rest)
 
@@ -145,7 +154,9 @@ pub record Fraction (text : List ℕ) (r : List ℕ × List ℕ) : Type 0 where
 -- a fraction that is read is one
 pub fraction_takes : (text : List ℕ) (r : List ℕ × List ℕ) → fraction_of text ≡ Some r → Fraction text r
 unfolding fraction_of
-fraction_takes [] r e = let same : ([], []) ≡ r = cc in subst (λ (x : List ℕ × List ℕ). Fraction [] x) same (record { part = []; text_is = refl; part_is = inl (refl, refl) })
+fraction_takes [] r e =
+    let same : ([], []) ≡ r = cc in
+    subst (λ (x : List ℕ × List ℕ). Fraction [] x) same (record { part = []; text_is = refl; part_is = inl (refl, refl) })
 fraction_takes (c ∷ cs) r e = go (eqb c 46) refl e
   where
     go : (t : Bool) → eqb c 46 ≡ t → (if t then some_digits_of cs else Some ([], c ∷ cs)) ≡ Some r → Fraction (c ∷ cs) r
@@ -154,10 +165,13 @@ fraction_takes (c ∷ cs) r e = go (eqb c 46) refl e
       text_is = ap (λ (x : ℕ). x ∷ cs) (eqb-true c 46 f) ∙ ap (λ (xs : List ℕ). 46 ∷ xs) h.0.text_is;
       part_is = inr (refl, h.0.digits, h.1);
     }
-    go false f g = let same : ([], c ∷ cs) ≡ r = cc in subst (λ (x : List ℕ × List ℕ). Fraction (c ∷ cs) x) same (record { part = []; text_is = refl; part_is = inl (refl, refl) })
+    go false f g =
+        let same : ([], c ∷ cs) ≡ r = cc in
+        subst (λ (x : List ℕ × List ℕ). Fraction (c ∷ cs) x) same (record { part = []; text_is = refl; part_is = inl (refl, refl) })
 
 -- each fraction is read
-pub fraction_again : (part ds rest : List ℕ) → IsFraction part ds → NoDigit rest → (get_or rest 0 0 ≡ 46 → ⊥) → fraction_of (part ++ rest) ≡ Some (ds, rest)
+pub fraction_again : (part ds rest : List ℕ) → IsFraction part ds → NoDigit rest → (get_or rest 0 0 ≡ 46 → ⊥)
+    → fraction_of (part ++ rest) ≡ Some (ds, rest)
 unfolding fraction_of
 fraction_again part ds rest (inl h) n p =
     ap (λ (xs : List ℕ). fraction_of (xs ++ rest)) h.0
@@ -179,7 +193,8 @@ exponent_sign_takes text = go text (eqb (get_or text 0 0) 43) refl
     go (c ∷ cs) true e = record { sign = 43 ∷ []; text_is = ap (λ (x : ℕ). x ∷ cs) (eqb-true c 43 e); sign_is = inl (refl, refl) }
     go text false e = let h = minus_takes text in record { sign = h.sign; text_is = h.text_is; sign_is = inr h.sign_is }
 
-exponent_sign_again : (s : List ℕ) (m : Bool) (rest : List ℕ) → IsExponentSign s m → (get_or rest 0 0 ≡ 45 → ⊥) → (get_or rest 0 0 ≡ 43 → ⊥) → exponent_sign_of (s ++ rest) ≡ (m, rest)
+exponent_sign_again : (s : List ℕ) (m : Bool) (rest : List ℕ) → IsExponentSign s m → (get_or rest 0 0 ≡ 45 → ⊥) → (get_or rest 0 0 ≡ 43 → ⊥)
+    → exponent_sign_of (s ++ rest) ≡ (m, rest)
 unfolding exponent_sign_of
 exponent_sign_again s m rest (inl h) n p = ap (λ (x : List ℕ). exponent_sign_of (x ++ rest)) h.0 ∙ ap (λ (b : Bool). (b, rest)) (sym h.1)
 exponent_sign_again s m rest (inr h) n p = ap (λ (t : Bool). if t then (false, drop 1 (s ++ rest)) else minus_of (s ++ rest))
@@ -193,13 +208,16 @@ size_takes : (text : List ℕ) (n : ℕ) → size_of text ≡ Some n → AreDigi
 unfolding size_of
 size_takes text n h = go (ltb 0 (length text) && all_digits text) refl h
   where
-    go : (t : Bool) → (ltb 0 (length text) && all_digits text) ≡ t → (if t then Some (number text) else None) ≡ Some n → AreDigits text × (0 < length text) × (n ≡ number text)
+    go : (t : Bool) → (ltb 0 (length text) && all_digits text) ≡ t → (if t then Some (number text) else None) ≡ Some n
+        → AreDigits text × (0 < length text) × (n ≡ number text)
     go true e f = let p = and_parts (ltb 0 (length text)) (all_digits text) e in (all_are text p.1, ltb-true 0 (length text) p.0, cc)
     go false e f = absurd cc
 
 size_again : (text : List ℕ) → AreDigits text → 0 < length text → size_of text ≡ Some (number text)
 unfolding size_of
-size_again text h some = ap (λ (t : Bool). if t then Some (number text) else None) (and_from (ltb 0 (length text)) (all_digits text) (lt-ltb 0 (length text) some) (are_all text h))
+size_again text h some =
+    ap (λ (t : Bool). if t then Some (number text) else None)
+    (and_from (ltb 0 (length text)) (all_digits text) (lt-ltb 0 (length text) some) (are_all text h))
 
 record Sized (down : Bool) (o : Option ℕ) (e : Bool × ℕ) : Type 0 where
   size : ℕ
@@ -220,7 +238,8 @@ exponent_takes (c ∷ cs) e h = go (eqb (length (c ∷ cs)) 0) (eqb c 101 || eqb
     letter u = elim (or_cases (eqb c 101) (eqb c 69) u) [ inl a ↦ inl (eqb-true c 101 a) | inr a ↦ inr (eqb-true c 69 a) ]
 
     go : (t u : Bool) → eqb (length (c ∷ cs)) 0 ≡ t → eqb c 101 || eqb c 69 ≡ u
-        → (if t then Some (false, 0) else (if u then exponent_with (exponent_sign_of cs).0 (size_of (exponent_sign_of cs).1) else None)) ≡ Some e → IsExponent (c ∷ cs) e.0 e.1
+        → (if t then Some (false, 0) else (if u then exponent_with (exponent_sign_of cs).0 (size_of (exponent_sign_of cs).1) else None)) ≡ Some e
+        → IsExponent (c ∷ cs) e.0 e.1
     go true u f g h = absurd (let z : length (c ∷ cs) ≡ 0 = eqb-true (length (c ∷ cs)) 0 f in omega arith)
     go false false f g h = absurd cc
     go false true f g h =

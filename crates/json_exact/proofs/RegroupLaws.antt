@@ -4,8 +4,8 @@ use Rattle.std.proofs.Math.Nat.{pow-suc}
 use Rattle.std.proofs.lemmas.Nat.{pow-add}
 use Rattle.json_exact.specs.Digits.{joined}
 use Rattle.json_model.specs.Decimal.{HasNarrowDigits}
-use Rattle.json_exact.specs.LeadingDigits.{Keeps}
-use Rattle.json_exact.specs.LeadingDigitsLaws.{joined_small}
+use Rattle.json_exact.specs.inner.LeadingDigits.{Keeps}
+use Rattle.json_exact.specs.inner.LeadingDigitsLaws.{joined_small}
 use Rattle.json_exact.proofs.DigitLaws.{ten_mono, factor_last}
 use Rattle.json_exact.proofs.GroupLaws.{fours}
 use Rattle.json_exact.proofs.NarrowLaws.{narrow_more}
@@ -32,7 +32,9 @@ read_zeros n (suc k) = read_zeros (n * 10) k ∙ (let e = pow-suc 10 k in turned
 
 -- all digits, and zeros
 pub read_all : (n : ℕ) (ds : List ℕ) (k : ℕ) → read n ds (length ds + k) ≡ (n * 10 ^ length ds + joined 10 ds) * 10 ^ k
-read_all n [] k = ap (λ (i : ℕ). read n [] i) (let i : 0 + k ≡ k = omega arith in i) ∙ read_zeros n k ∙ ap (λ (x : ℕ). x * 10 ^ k) (let e : n ≡ n * 1 + 0 = omega arith in e)
+read_all n [] k =
+    ap (λ (i : ℕ). read n [] i) (let i : 0 + k ≡ k = omega arith in i) ∙ read_zeros n k
+    ∙ ap (λ (x : ℕ). x * 10 ^ k) (let e : n ≡ n * 1 + 0 = omega arith in e)
 read_all n (d ∷ ds) k =
     ap (λ (i : ℕ). read n (d ∷ ds) i) (let i : length (d ∷ ds) + k ≡ suc (length ds + k) = omega arith in i)
     ∙ read_all (n * 10 + d) ds k
@@ -49,28 +51,33 @@ filling g f d few below lt =
     (omega arith, omega arith)
 
 -- n are whole groups, and g what is behind them, with `f` digits
-pub one_digit : (n g f d : ℕ) (ds : List ℕ) (k : ℕ) → n * 10 ^ f + g ≡ read 0 ds k → d ≡ get_or ds k 0 → n * 10 ^ (f + 1) + (g * 10 + d) ≡ read 0 ds (k + 1)
+pub one_digit : (n g f d : ℕ) (ds : List ℕ) (k : ℕ) → n * 10 ^ f + g ≡ read 0 ds k → d ≡ get_or ds k 0
+    → n * 10 ^ (f + 1) + (g * 10 + d) ≡ read 0 ds (k + 1)
 one_digit n g f d ds k e h =
     let i : k + 1 ≡ suc k = omega arith in
-    step n g d (10 ^ f) (10 ^ (f + 1)) (get_or ds k 0) (read 0 ds k) (pow-add 10 f 1) e h ∙ sym (read_step 0 ds k) ∙ ap (λ (j : ℕ). read 0 ds j) (sym i)
+    step n g d (10 ^ f) (10 ^ (f + 1)) (get_or ds k 0) (read 0 ds k) (pow-add 10 f 1) e h ∙ sym (read_step 0 ds k)
+    ∙ ap (λ (j : ℕ). read 0 ds j) (sym i)
   where
     step : (n g d p q t r : ℕ) → q ≡ p * 10 → n * p + g ≡ r → d ≡ t → n * q + (g * 10 + d) ≡ r * 10 + t
     step n g d p q t r a b c = rw (a, c, sym b) (omega arith)
 
-pub full_group : (n g f d : ℕ) (ds : List ℕ) (k : ℕ) → f + 1 ≡ 4 → n * 10 ^ f + g ≡ read 0 ds k → d ≡ get_or ds k 0 → (n * 10000 + (g * 10 + d)) * 10 ^ 0 + 0 ≡ read 0 ds (k + 1)
+pub full_group : (n g f d : ℕ) (ds : List ℕ) (k : ℕ) → f + 1 ≡ 4 → n * 10 ^ f + g ≡ read 0 ds k → d ≡ get_or ds k 0
+    → (n * 10000 + (g * 10 + d)) * 10 ^ 0 + 0 ≡ read 0 ds (k + 1)
 full_group n g f d ds k full e h =
     let x = one_digit n g f d ds k e h in
     let y : n * 10 ^ (f + 1) ≡ n * 10000 = ap (λ (i : ℕ). n * 10 ^ i) full in
     (let z : (n * 10000 + (g * 10 + d)) * 10 ^ 0 + 0 ≡ n * 10 ^ (f + 1) + (g * 10 + d) = omega arith in z) ∙ x
 
 -- all digits were read, and no group is open
-pub all_read : (n g f p i k : ℕ) (ds : List ℕ) → length ds ≡ 38 → p < 4 → i ≡ 44 - p → f < 4 → p + i ≡ 4 * k + f → g < 10 ^ f → n * 10 ^ f + g ≡ read 0 ds i → n ≡ joined 10 ds * 10 ^ (6 - p)
+pub all_read : (n g f p i k : ℕ) (ds : List ℕ) → length ds ≡ 38 → p < 4 → i ≡ 44 - p → f < 4 → p + i ≡ 4 * k + f → g < 10 ^ f
+    → n * 10 ^ f + g ≡ read 0 ds i → n ≡ joined 10 ds * 10 ^ (6 - p)
 all_read n g f p i k ds len lt e few whole below h =
     let f0 : f ≡ 0 = omega arith in
     let g0 : g < 10 ^ 0 = subst (λ (j : ℕ). g < 10 ^ j) f0 below in
     let a : n * 10 ^ 0 + g ≡ read 0 ds i = subst (λ (j : ℕ). n * 10 ^ j + g ≡ read 0 ds i) f0 h in
     let b : i ≡ length ds + (6 - p) = omega arith in
-    (let z : n ≡ n * 10 ^ 0 + g = omega arith in z) ∙ a ∙ ap (λ (j : ℕ). read 0 ds j) b ∙ read_all 0 ds (6 - p) ∙ ap (λ (x : ℕ). x * 10 ^ (6 - p)) (none (10 ^ length ds) (joined 10 ds))
+    (let z : n ≡ n * 10 ^ 0 + g = omega arith in z) ∙ a ∙ ap (λ (j : ℕ). read 0 ds j) b ∙ read_all 0 ds (6 - p)
+    ∙ ap (λ (x : ℕ). x * 10 ^ (6 - p)) (none (10 ^ length ds) (joined 10 ds))
   where
     none : (u j : ℕ) → 0 * u + j ≡ j
     none u j = omega arith

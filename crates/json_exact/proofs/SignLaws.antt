@@ -4,8 +4,8 @@ use Rattle.std.specs.Prelude.{◌*ℤ◌, int_lt}
 use Rattle.std.proofs.Math.Nat.{eq_of_mul-eq-mul_right}
 use Rattle.std.proofs.lemmas.Bool.{le-ltb}
 use Rattle.json_exact.specs.Exact.{signed}
-use Rattle.json_exact.specs.DecimalInverseLaws.{abs_signed, sign_signed}
-use Rattle.json_exact.specs.NumberInverseLaws.{signed_times, sign_abs}
+use Rattle.json_exact.specs.inner.DecimalInverseLaws.{abs_signed, sign_signed}
+use Rattle.json_exact.specs.inner.NumberInverseLaws.{signed_times, sign_abs}
 
 -- a product has the sign of the number, and the magnitude times the factor
 pub times : (d : ℤ) (p : ℕ) → d *ℤ pos p ≡ signed (int_lt d (pos 0)) (nat_abs d * p)
@@ -28,7 +28,8 @@ turn d a b = twice d a b ∙ ap (λ (x : ℕ). d *ℤ pos x) (let e : a * b ≡ 
 
 -- a factor above 0 keeps the sign
 pub sign_times : (d : ℤ) (p : ℕ) → 0 < p → int_lt (d *ℤ pos p) (pos 0) ≡ int_lt d (pos 0)
-sign_times (pos n) p some = ap (λ (x : ℤ). int_lt x (pos 0)) (signed_times false n p) ∙ le-ltb (n * p) 0 (omega arith) ∙ sym (le-ltb n 0 (omega arith))
+sign_times (pos n) p some =
+    ap (λ (x : ℤ). int_lt x (pos 0)) (signed_times false n p) ∙ le-ltb (n * p) 0 (omega arith) ∙ sym (le-ltb n 0 (omega arith))
 sign_times (negsuc n) p some = ap (λ (x : ℤ). int_lt x (pos 0)) (signed_times true (suc n) p) ∙ sign_signed true (suc n * p) (positive n p some)
   where
     positive : (n p : ℕ) → 0 < p → 0 < suc n * p
@@ -59,5 +60,6 @@ cancel d e p some h = same (nat_abs d) abs refl
         let u : 0 < nat_abs d * p = subst (λ (x : ℕ). 0 < x * p) (sym z) (positive n p some) in
         let v : 0 < nat_abs e * p = subst (λ (x : ℕ). 0 < x * p) a u in
         let s : int_lt d (pos 0) ≡ int_lt e (pos 0) =
-        sym (sign_signed (int_lt d (pos 0)) (nat_abs d * p) u) ∙ ap (λ (x : ℤ). int_lt x (pos 0)) (sym (times d p) ∙ h ∙ times e p) ∙ sign_signed (int_lt e (pos 0)) (nat_abs e * p) v in
+        sym (sign_signed (int_lt d (pos 0)) (nat_abs d * p) u) ∙ ap (λ (x : ℤ). int_lt x (pos 0)) (sym (times d p) ∙ h ∙ times e p)
+        ∙ sign_signed (int_lt e (pos 0)) (nat_abs e * p) v in
         sign_abs d ∙ ap (λ (b : Bool). signed b (nat_abs d)) s ∙ ap (λ (x : ℕ). signed (int_lt e (pos 0)) x) a ∙ sym (sign_abs e)

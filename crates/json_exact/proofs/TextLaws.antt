@@ -6,7 +6,7 @@ use Rattle.std.proofs.lemmas.Nat.{pow-add, mod-mul-add, div-mul-add, div-add-mod
 use Rattle.json_model.specs.Decimal.{Decimal as Written}
 use Rattle.json_exact.specs.Exact.{IsWorth, parts}
 use Rattle.json_exact.specs.Digits.{spread, count}
-use Rattle.json_exact.specs.DecimalInverseLaws.{ten_pos}
+use Rattle.json_exact.specs.inner.DecimalInverseLaws.{ten_pos}
 use Rattle.json_exact.specs.Text.{digits_text, sign_text, whole_text, fraction_text, text}
 use Rattle.json_exact.proofs.CountLaws.{count_cut}
 use Rattle.json_exact.proofs.SignLaws.{sign_times}
@@ -18,7 +18,8 @@ first_of x p some =
     let r = x % p in
     let a = x / p in
     let lt : r < p = omega arith in
-    let whole : x ≡ a / 10 * (p * 10) + (a % 10 * p + r) = step x a p r (a / 10) (a % 10) (div-add-mod' x p) (let i : a ≡ a / 10 * 10 + a % 10 = omega arith in i) in
+    let whole : x ≡ a / 10 * (p * 10) + (a % 10 * p + r) =
+    step x a p r (a / 10) (a % 10) (div-add-mod' x p) (let i : a ≡ a / 10 * 10 + a % 10 = omega arith in i) in
     let small : a % 10 * p + r < p * 10 = room (a % 10) p r (omega arith) lt in
     let m : x % (p * 10) ≡ a % 10 * p + r = ap (λ (y : ℕ). y % (p * 10)) whole ∙ mod-mul-add (a / 10) (p * 10) (a % 10 * p + r) small in
     (ap (λ (y : ℕ). y / p) m ∙ div-mul-add (a % 10) p r lt, ap (λ (y : ℕ). y % p) m ∙ mod-mul-add (a % 10) p r lt)
@@ -38,7 +39,8 @@ digits_more k x =
     ∙ ap (λ (d : ℕ). (48 + d) ∷ digits_text k x) (f.0)
 
 -- the digit at the next place is written
-pub one_more : (n low place digit : ℕ) (before after : List ℕ) → low < place → digit ≡ n / 10 ^ (place - 1) % 10 → after ≡ before ++ ((48 + digit) ∷ [])
+pub one_more : (n low place digit : ℕ) (before after : List ℕ) → low < place → digit ≡ n / 10 ^ (place - 1) % 10
+    → after ≡ before ++ ((48 + digit) ∷ [])
     → after ++ digits_text (place - 1 - low) (n / 10 ^ low) ≡ before ++ digits_text (place - low) (n / 10 ^ low)
 one_more n low place digit before after lt d e =
     let k = place - 1 - low in
@@ -66,11 +68,14 @@ unfolding text
 text_in_parts d w h le =
     let p = w.places in
     let n = nat_abs w.digits in
-    let sign : int_lt w.digits (pos 0) ≡ int_lt d (pos 0) = sym (sign_times w.digits parts parts_pos) ∙ ap (λ (x : ℤ). int_lt x (pos 0)) (sym h) ∙ sign_times d (10 ^ p) (ten_pos p) in
-    let last : n ≡ nat_abs d / 10 ^ (16383 - p) = sym (ap (λ (y : ℕ). y / 10 ^ (16383 - p)) (worth_in_parts d w h le) ∙ mul-div_cancel n (ten_pos (16383 - p))) in
+    let sign : int_lt w.digits (pos 0) ≡ int_lt d (pos 0) =
+    sym (sign_times w.digits parts parts_pos) ∙ ap (λ (x : ℤ). int_lt x (pos 0)) (sym h) ∙ sign_times d (10 ^ p) (ten_pos p) in
+    let last : n ≡ nat_abs d / 10 ^ (16383 - p) =
+    sym (ap (λ (y : ℕ). y / 10 ^ (16383 - p)) (worth_in_parts d w h le) ∙ mul-div_cancel n (ten_pos (16383 - p))) in
     let i : 16383 - p + p ≡ 16383 = omega arith in
     let whole : n / 10 ^ p ≡ nat_abs d / 10 ^ 16383 =
-    ap (λ (y : ℕ). y / 10 ^ p) last ∙ div-div-eq-div-mul (nat_abs d) (10 ^ (16383 - p)) (10 ^ p) ∙ ap (λ (y : ℕ). nat_abs d / y) (sym (pow-add 10 (16383 - p) p) ∙ ap (λ (j : ℕ). 10 ^ j) i) in
+    ap (λ (y : ℕ). y / 10 ^ p) last ∙ div-div-eq-div-mul (nat_abs d) (10 ^ (16383 - p)) (10 ^ p)
+    ∙ ap (λ (y : ℕ). nat_abs d / y) (sym (pow-add 10 (16383 - p) p) ∙ ap (λ (j : ℕ). 10 ^ j) i) in
     ap (λ (b : Bool). (if b then 45 ∷ [] else []) ++ whole_text (n / 10 ^ p) ++ fraction_text p n) sign
     ∙ ap (λ (y : ℕ). sign_text d ++ whole_text y ++ fraction_text p n) whole
     ∙ ap (λ (y : ℕ). sign_text d ++ whole_text (nat_abs d / 10 ^ 16383) ++ fraction_text p y) last

@@ -10,9 +10,9 @@ use Rattle.json_exact.specs.Exact.{signed}
 use Rattle.json_exact.specs.Digits.{count_in, count_of, count}
 use Rattle.json_exact.specs.Literal.{AreDigits, number, IsMinus, IsWholePart, IsFraction, placed, IsLiteral}
 use Rattle.json_exact.specs.Text.{digits_text, sign_text, whole_text, fraction_text, text}
-use Rattle.json_exact.specs.LeadingDigitsLaws.{count_step, count_zero}
-use Rattle.json_exact.specs.DecimalInverseLaws.{ten_pos}
-use Rattle.json_exact.specs.NumberInverseLaws.{sign_abs}
+use Rattle.json_exact.specs.inner.LeadingDigitsLaws.{count_step, count_zero}
+use Rattle.json_exact.specs.inner.DecimalInverseLaws.{ten_pos}
+use Rattle.json_exact.specs.inner.NumberInverseLaws.{sign_abs}
 use Rattle.json_exact.proofs.DigitTextLaws.{values, number_append}
 use Rattle.json_exact.proofs.TextLaws.{first_of, digits_more}
 
@@ -23,7 +23,8 @@ digits_length (suc k) x = ap length (digits_more k x) ∙ ap (λ (n : ℕ). suc 
 
 digits_are : (k x : ℕ) → AreDigits (digits_text k x)
 digits_are zero x = tt
-digits_are (suc k) x = subst AreDigits (sym (digits_more k x)) ((omega arith, (let h : x / 10 ^ k % 10 < 10 = omega arith in omega arith)), digits_are k x)
+digits_are (suc k) x =
+    subst AreDigits (sym (digits_more k x)) ((omega arith, (let h : x / 10 ^ k % 10 < 10 = omega arith in omega arith)), digits_are k x)
 
 -- the last digits of x write what is left of x by a power of ten
 number_digits : (k x : ℕ) → number (digits_text k x) ≡ x % 10 ^ k
@@ -94,7 +95,8 @@ whole_part (suc m) =
       (omega arith, (let r : suc m / 10 ^ h.under % 10 < 10 = omega arith in omega arith)),
       digits_are h.under (suc m),
       λ z. absurd
-          (not_zero (suc m) (10 ^ h.under) (10 ^ suc h.under) h.low h.high (pow-suc 10 h.under) (ten_pos h.under) (let y : 48 + suc m / 10 ^ h.under % 10 ≡ 48 = z in omega arith)),
+          (not_zero (suc m) (10 ^ h.under) (10 ^ suc h.under) h.low h.high (pow-suc 10 h.under) (ten_pos h.under)
+          (let y : 48 + suc m / 10 ^ h.under % 10 ≡ 48 = z in omega arith)),
     )
   where
     not_zero : (n p q : ℕ) → p ≤ n → n < q → q ≡ p * 10 → 0 < p → n / p % 10 ≡ 0 → ⊥
@@ -115,8 +117,11 @@ minus_part d = go (int_lt d (pos 0))
 
 fraction_part : (places n : ℕ) → IsFraction (fraction_text places n) (digits_text places n)
 fraction_part zero n = inl (refl, refl)
-fraction_part (suc p) n = inr
-    (ap (λ (t : Bool). if t then [] else 46 ∷ digits_text (suc p) n) (ne_eqb (suc p) 0 (λ e. absurd (omega arith))), digits_are (suc p) n, (let h = digits_length (suc p) n in omega arith))
+fraction_part (suc p) n = inr (
+  ap (λ (t : Bool). if t then [] else 46 ∷ digits_text (suc p) n) (ne_eqb (suc p) 0 (λ e. absurd (omega arith))),
+  digits_are (suc p) n,
+  (let h = digits_length (suc p) n in omega arith),
+)
 
 -- the whole part and the fraction write the number together
 number_is : (n p : ℕ) → number (whole_text (n / 10 ^ p) ++ digits_text p n) ≡ n
@@ -160,7 +165,8 @@ text_writes w =
       whole_is = whole_part (n / 10 ^ p);
       fraction_is = fraction_part p n;
       exponent_is = inl (refl, refl, refl);
-      written_is = same w.digits p (length (digits_text p n)) (number (whole_text (n / 10 ^ p) ++ digits_text p n)) (number_is n p) (digits_length p n);
+      written_is =
+          same w.digits p (length (digits_text p n)) (number (whole_text (n / 10 ^ p) ++ digits_text p n)) (number_is n p) (digits_length p n);
     }
   where
     made : (d e : ℤ) (p q : ℕ) → d ≡ e → p ≡ q → ◌≡◌ {A = Written} (record { digits = d; places = p }) (record { digits = e; places = q })
@@ -169,7 +175,8 @@ text_writes w =
     same : (d : ℤ) (p k m : ℕ) → m ≡ nat_abs d → k ≡ p → record { digits = d; places = p } ≡ placed (int_lt d (pos 0)) m k false 0
     same d p k m e f =
         let none : 0 - k ≡ 0 = omega arith in
-        let zeros : m * 10 ^ (0 - k) ≡ nat_abs d = ap (λ (j : ℕ). m * 10 ^ j) none ∙ (let h : m * 10 ^ 0 ≡ m = (let o : 10 ^ 0 ≡ 1 = refl in omega arith) in h) ∙ e in
+        let zeros : m * 10 ^ (0 - k) ≡ nat_abs d =
+        ap (λ (j : ℕ). m * 10 ^ j) none ∙ (let h : m * 10 ^ 0 ≡ m = (let o : 10 ^ 0 ≡ 1 = refl in omega arith) in h) ∙ e in
         let digits : d ≡ signed (int_lt d (pos 0)) (m * 10 ^ (0 - k)) = sign_abs d ∙ ap (signed (int_lt d (pos 0))) (sym zeros) in
         let places : p ≡ k - 0 = omega arith in
         made d (signed (int_lt d (pos 0)) (m * 10 ^ (0 - k))) p (k - 0) digits places

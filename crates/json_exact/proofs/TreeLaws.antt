@@ -77,4 +77,5 @@ put-tree false v o r e = e
 pub members-moved : (ms : List (Member Value)) (m : Map) → IsPermutation (map pair_of ms) m.members → IsPermutation (map member_pair ms) (pairs m)
 members-moved ms m p =
     subst (λ (ps : Pairs). IsPermutation ps (pairs m)) (members-pairs ms)
-    (subst (λ (ps : Pairs). IsPermutation (map value_pair (map pair_of ms)) ps) (sym (pairs-of m)) (IsPermutation-map value_pair (map pair_of ms) m.members p))
+    (subst (λ (ps : Pairs). IsPermutation (map value_pair (map pair_of ms)) ps) (sym (pairs-of m))
+    (IsPermutation-map value_pair (map pair_of ms) m.members p))

@@ -9,12 +9,12 @@ use Rattle.std.proofs.lemmas.List.Elements.{All-nil, All-cons, All-tail}
 use Rattle.json_model.specs.Decimal.{HasNarrowDigits, IsWhole}
 use Rattle.json_exact.specs.Exact.{signed, parts, limit, exactly, IsWithinLimits}
 use Rattle.json_exact.specs.Digits.{joined, AllBelow}
-use Rattle.json_exact.specs.LeadingDigits.{Keeps}
-use Rattle.json_exact.specs.LeadingDigitsLaws.{power_pos, joined_below, below_len}
-use Rattle.json_exact.specs.DecimalFields.{parts_of, IsFields}
+use Rattle.json_exact.specs.inner.LeadingDigits.{Keeps}
+use Rattle.json_exact.specs.inner.LeadingDigitsLaws.{power_pos, joined_below, below_len}
+use Rattle.json_exact.specs.inner.DecimalFields.{parts_of, IsFields}
 use Rattle.json_exact.specs.declared.decimal.Decimal.TheInside.{Inside}
-use Rattle.json_exact.specs.DecimalInverseLaws.{abs_signed, size_is}
-use Rattle.json_exact.specs.NumberInverseLaws.{signed_times, sign_abs}
+use Rattle.json_exact.specs.inner.DecimalInverseLaws.{abs_signed, size_is}
+use Rattle.json_exact.specs.inner.NumberInverseLaws.{signed_times, sign_abs}
 use Rattle.json_exact.proofs.DigitLaws.{power_mono, none_of, factor_last}
 use Rattle.json_exact.proofs.GroupLaws.{fours, whole_groups}
 use Rattle.json_exact.proofs.SignLaws.{abs_times}
@@ -35,7 +35,8 @@ module _ (b : ℕ) (some : 0 < b) where
 
   pub counts_none : (ds : List ℕ) → joined b ds ≡ 0 → AreZeros ds
   counts_none [] h = All-nil (λ d. d ≡ 0)
-  counts_none (d ∷ ds) h = All-cons (λ d. d ≡ 0) d ds (none_of d (b ^ length ds) (power_pos b (length ds) some) (omega arith)) (counts_none ds (omega arith))
+  counts_none (d ∷ ds) h =
+      All-cons (λ d. d ≡ 0) d ds (none_of d (b ^ length ds) (power_pos b (length ds) some) (omega arith)) (counts_none ds (omega arith))
 
   -- the digits up to a place, and past it
   pub split : (k r : ℕ) (ds : List ℕ) → length ds ≡ k + r → joined b ds ≡ joined b (take k ds) * b ^ r + joined b (drop k ds)
@@ -106,7 +107,8 @@ module _ (b more : ℕ) (two : 1 < b) (point : ℕ) where
   whole_long ds len n t h e = (
     joined b ds * b ^ t,
     eq_of_mul-eq-mul_right (b ^ suc more) (power_pos b (suc more) some) n (joined b ds * b ^ t * b ^ point)
-        (h.size ∙ ap (λ (x : ℕ). joined b ds * x) (ap (λ (k : ℕ). b ^ k) e ∙ pow-add b (suc more) (t + point) ∙ ap (λ (x : ℕ). b ^ suc more * x) (pow-add b t point))
+        (h.size ∙ ap (λ (x : ℕ). joined b ds * x)
+        (ap (λ (k : ℕ). b ^ k) e ∙ pow-add b (suc more) (t + point) ∙ ap (λ (x : ℕ). b ^ suc more * x) (pow-add b t point))
         ∙ products (joined b ds) (b ^ suc more) (b ^ t) (b ^ point)),
   )
     where
@@ -133,7 +135,8 @@ module _ (b more : ℕ) (two : 1 < b) (point : ℕ) where
       let s = split b some w r ds (h.count ∙ sym f) in
       let u = joined_below b (drop w ds) (below_drop b w ds h.below) in
       let v : joined b (drop w ds) < b ^ r = subst (λ (i : ℕ). joined b (drop w ds) < b ^ i) (drop_length w r ds (h.count ∙ sym f)) u in
-      let a : joined b ds * b ^ w ≡ k * b ^ suc more = eq_of_mul-eq-mul_right (b ^ point) (power_pos b point some) (joined b ds * b ^ w) (k * b ^ suc more)
+      let a : joined b ds * b ^ w ≡ k * b ^ suc more =
+      eq_of_mul-eq-mul_right (b ^ point) (power_pos b point some) (joined b ds * b ^ w) (k * b ^ suc more)
       (factor_last (joined b ds) (b ^ w) (b ^ point) ∙ ap (λ (x : ℕ). joined b ds * x) (sym (pow-add b w point) ∙ ap (λ (i : ℕ). b ^ i) (sym e))
       ∙ sym h.size ∙ ap (λ (x : ℕ). x * b ^ suc more) g ∙ turned k (b ^ point) (b ^ suc more)) in
       let c : joined b ds ≡ k * b ^ r = eq_of_mul-eq-mul_right (b ^ w) (power_pos b w some) (joined b ds) (k * b ^ r)
@@ -197,7 +200,8 @@ of_whole d (k, e) = (nat_abs k, ap nat_abs e ∙ abs_times k parts)
 -- a number of parts is whole where the groups that write it are
 whole_parts : (q : ℕ) → WholePart 10000 10 (omega arith) 4096 (q * 10) → Whole q
 unfolding parts
-whole_parts q (k, e) = (k, eq_of_mul-eq-mul_right 10 (omega arith) q (k * 10 ^ 16383) (e ∙ ap (λ (x : ℕ). k * x) whole_groups ∙ sym (factor_last k (10 ^ 16383) 10)))
+whole_parts q (k, e) =
+    (k, eq_of_mul-eq-mul_right 10 (omega arith) q (k * 10 ^ 16383) (e ∙ ap (λ (x : ℕ). k * x) whole_groups ∙ sym (factor_last k (10 ^ 16383) 10)))
 
 parts_whole : (q : ℕ) → Whole q → WholePart 10000 10 (omega arith) 4096 (q * 10)
 unfolding parts

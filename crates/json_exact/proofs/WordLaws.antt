@@ -1,11 +1,11 @@
 -- Eleven groups are in the order of three words, which hold four, four and three of them.
-use Rattle.std.proofs.Common.{◌≡◌, ℕ, ◌+◌, ◌*◌, ◌^◌, ◌<◌, List, [], ◌∷◌, length, get_or, sym, ap, subst, ◌∙◌, arith}
+use Rattle.std.proofs.Common.{◌≡◌, ℕ, ◌+◌, ◌*◌, ◌^◌, ◌<◌, List, ◌∷◌, length, get_or, sym, ap, subst, ◌∙◌, arith}
 use Rattle.std.specs.Ordering.{nat_cmp, ordering_then}
 use Rattle.std.specs.declared.cmp.Ordering.{Ordering}
 use Rattle.std.specs.Cmp.{ranks, nat_cmp_is}
 use Rattle.std.specs.Cmp.Lexicographic.{slice_cmp}
 use Rattle.json_exact.specs.Digits.{joined, AllBelow}
-use Rattle.json_exact.specs.LeadingDigitsLaws.{joined_below}
+use Rattle.json_exact.specs.inner.LeadingDigitsLaws.{joined_below}
 use Rattle.json_exact.proofs.FewLaws.{reads, reads_all, reads_below}
 use Rattle.json_exact.proofs.OrderLaws.{Orders, high_then_low, digits_order}
 

@@ -5,7 +5,7 @@ use Rattle.std.proofs.Math.Nat.{eq_of_mul-eq-mul_right}
 use Rattle.std.proofs.lemmas.Nat.{pow-add}
 use Rattle.json_model.specs.Decimal.{Decimal as Written, HasNarrowDigits, IsNarrow, IsWhole, IsSameValue}
 use Rattle.json_exact.specs.Exact.{IsWorth, parts, exactly}
-use Rattle.json_exact.specs.DecimalInverseLaws.{ten_pos}
+use Rattle.json_exact.specs.inner.DecimalInverseLaws.{ten_pos}
 use Rattle.json_exact.proofs.SignLaws.{abs_times, turn, cancel}
 use Rattle.json_exact.proofs.NarrowLaws.{narrow_same}
 
@@ -29,7 +29,8 @@ one_worth d w v f g = cancel (w.digits *ℤ pos (10 ^ v.places)) (v.digits *ℤ 
     ∙ ap (λ (z : ℤ). z *ℤ pos (10 ^ w.places)) g ∙ turn v.digits parts (10 ^ w.places))
 
 worth_one : (d e : ℤ) (w v : Written) → IsWorth d w → IsWorth e v → IsSameValue w v → d ≡ e
-worth_one d e w v f g s = cancel d e (10 ^ v.places) (ten_pos v.places) (cancel (d *ℤ pos (10 ^ v.places)) (e *ℤ pos (10 ^ v.places)) (10 ^ w.places) (ten_pos w.places)
+worth_one d e w v f g s =
+    cancel d e (10 ^ v.places) (ten_pos v.places) (cancel (d *ℤ pos (10 ^ v.places)) (e *ℤ pos (10 ^ v.places)) (10 ^ w.places) (ten_pos w.places)
     (turn d (10 ^ v.places) (10 ^ w.places) ∙ ap (λ (z : ℤ). z *ℤ pos (10 ^ v.places)) f ∙ turn w.digits parts (10 ^ v.places)
     ∙ ap (λ (z : ℤ). z *ℤ pos parts) s ∙ turn v.digits (10 ^ w.places) parts ∙ ap (λ (z : ℤ). z *ℤ pos (10 ^ w.places)) (sym g)))
 
@@ -60,8 +61,10 @@ sizes d w f = sym (abs_times d (10 ^ w.places)) ∙ ap nat_abs f ∙ abs_times w
 -- a value is narrow exactly where what it is written as is
 pub narrow_as_written : (d : ℤ) (w : Written) → IsWorth d w → HasNarrowDigits (nat_abs d) ↔ IsNarrow w
 unfolding parts
-narrow_as_written d w f =
-    (narrow_same (nat_abs w.digits) (nat_abs d) 16383 w.places (sym (sizes d w f)), narrow_same (nat_abs d) (nat_abs w.digits) w.places 16383 (sizes d w f))
+narrow_as_written d w f = (
+  narrow_same (nat_abs w.digits) (nat_abs d) 16383 w.places (sym (sizes d w f)),
+  narrow_same (nat_abs d) (nat_abs w.digits) w.places 16383 (sizes d w f),
+)
 
 -- what is written, in parts
 pub worth_in_parts : (d : ℤ) (w : Written) → IsWorth d w → w.places ≤ 16383 → nat_abs d ≡ nat_abs w.digits * 10 ^ (16383 - w.places)

@@ -11,7 +11,7 @@ use Rattle.std.proofs.Math.Nat.{mul-lt-mul_of_pos_right}
 use Rattle.std.proofs.Math.IntN.{negsuc-*ℤ-pos}
 use Rattle.json_model.specs.Decimal.{Decimal as Written, IsBelow, IsSameValue}
 use Rattle.json_exact.specs.Exact.{IsWorth, parts}
-use Rattle.json_exact.specs.DecimalInverseLaws.{ten_pos}
+use Rattle.json_exact.specs.inner.DecimalInverseLaws.{ten_pos}
 use Rattle.json_exact.proofs.SignLaws.{turn}
 use Rattle.json_exact.proofs.WorthLaws.{parts_pos}
 
@@ -32,7 +32,8 @@ up (negsuc m) (negsuc n) p some h =
     let b : n < m = ltb→lt n m h.lt in
     let l : suc n * p < suc m * p = mul-lt-mul_of_pos_right (omega arith) some in
     let i : suc n * p - 1 < suc m * p - 1 = omega arith in
-    subst (λ (z : ℤ). z <ℤ (negsuc n *ℤ pos p)) (sym (minus_times m p some)) (subst (λ (z : ℤ). negsuc (suc m * p - 1) <ℤ z) (sym (minus_times n p some)) (omega (arith, lt→ltb)))
+    subst (λ (z : ℤ). z <ℤ (negsuc n *ℤ pos p)) (sym (minus_times m p some))
+    (subst (λ (z : ℤ). negsuc (suc m * p - 1) <ℤ z) (sym (minus_times n p some)) (omega (arith, lt→ltb)))
 
 -- and tells it
 pub down : (x y : ℤ) (p : ℕ) → 0 < p → (x *ℤ pos p) <ℤ (y *ℤ pos p) → x <ℤ y
@@ -64,7 +65,9 @@ below_as_written d e w v f g =
 
 -- of two written numbers one is below the other, or they have one value
 pub written_total : (a b : Written) → IsBelow a b ⊎ (IsSameValue a b ⊎ IsBelow b a)
-written_total a b = go (int_cmp (a.digits *ℤ pos (10 ^ b.places)) (b.digits *ℤ pos (10 ^ a.places))) (int_ranks (a.digits *ℤ pos (10 ^ b.places)) (b.digits *ℤ pos (10 ^ a.places)))
+written_total a b =
+    go (int_cmp (a.digits *ℤ pos (10 ^ b.places)) (b.digits *ℤ pos (10 ^ a.places)))
+    (int_ranks (a.digits *ℤ pos (10 ^ b.places)) (b.digits *ℤ pos (10 ^ a.places)))
   where
     go : (o : Ordering) → MatchOrdering o (IsBelow a b) (IsSameValue a b) (IsBelow b a) → IsBelow a b ⊎ (IsSameValue a b ⊎ IsBelow b a)
     go Less h = inl h

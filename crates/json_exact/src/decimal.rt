@@ -7,8 +7,8 @@ ghost use Rattle.json_exact.specs.DecimalGroups.{group, IsGreatestPlace, IsLeast
 ghost use Rattle.json_exact.specs.Digits.{joined, count};
 ghost use Rattle.json_exact.specs.Exact.{signed, exactly, parts, IsWithinLimits};
 ghost use Rattle.json_exact.specs.Groups.{groups_of, lifted, AreGroups, AreWorth};
-ghost use Rattle.json_exact.specs.SignificantDigits.{Holds};
-ghost use Rattle.json_exact.specs.SignificantGroups.{HoldsGroups};
+ghost use Rattle.json_exact.specs.inner.SignificantDigits.{Holds};
+ghost use Rattle.json_exact.specs.inner.SignificantGroups.{HoldsGroups};
 
 use crate::group::{
     compare_groups, digit_of_group, digits_behind_first, ends_in_zeros, last_index, number_of,
@@ -56,8 +56,8 @@ impl Model for Decimal {
 
     ghost Value = { ℤ };
 
-    ghost use Rattle.json_exact.specs.DecimalFields.{parts_of, IsFields};
-    ghost use Rattle.json_exact.specs.DecimalInverseLaws.{fields_of, fields_of-parts_of};
+    ghost use Rattle.json_exact.specs.inner.DecimalFields.{parts_of, IsFields};
+    ghost use Rattle.json_exact.specs.inner.DecimalInverseLaws.{fields_of, fields_of-parts_of};
 
     ghost view = { parts_of };
 
@@ -143,7 +143,8 @@ fn exponent_of(lifted: u16, zeros: u32) -> i32
 
 /// The place that counts from the last of the `FRACTION_GROUPS`, of one that counts from the point.
 fn lifted_place(place: i32) -> Option<u64>
-    ensures { MatchOption result ((place +ℤ pos 4096) <ℤ pos 0) (λ lifted. place +ℤ pos 4096 ≡ pos lifted) }
+    ensures { MatchOption result ((place +ℤ pos 4096) <ℤ pos 0)
+        (λ lifted. place +ℤ pos 4096 ≡ pos lifted) }
 {
     u64::try_from(place as i64 + FRACTION_GROUPS as i64).ok()
 }
@@ -162,9 +163,11 @@ impl Decimal {
     fn from_significant(negative: bool, groups: SignificantGroups, up: u64, down: u64) -> Decimal
         requires down { down < 2 ^ 63 }
         requires kept { groups.too_wide ≡ false }
-        requires exact { (n q : ℕ) × HoldsGroups groups n × HasNarrowDigits n × (n * 10000 ^ up ≡ q * 10 * 10000 ^ down) }
+        requires exact { (n q : ℕ) × HoldsGroups groups n × HasNarrowDigits n
+            × (n * 10000 ^ up ≡ q * 10 * 10000 ^ down) }
         requires low { groups.len + up ≤ 36864 + down }
-        ensures value { (n q : ℕ) → HoldsGroups groups n → n * 10000 ^ up ≡ q * 10 * 10000 ^ down → result ≡ signed negative q }
+        ensures value { (n q : ℕ) → HoldsGroups groups n → n * 10000 ^ up ≡ q * 10 * 10000 ^ down
+            → result ≡ signed negative q }
         ensures limits { IsWithinLimits result }
     {
         let kept = groups.groups;
@@ -442,7 +445,8 @@ impl PartialOrd for Decimal {
 
     ghost partial_cmp = { as_partial_cmp int_cmp };
 
-    ghost laws = { partial_order_from_own_ties (Prim.search (comparing, rules)) (Prim.search (comparing, rules)) };
+    ghost laws = { partial_order_from_own_ties (Prim.search (comparing, rules))
+        (Prim.search (comparing, rules)) };
 
     #[inline(always)]
     fn partial_cmp(&self, other: &Decimal) -> Option<Ordering> {

@@ -123,17 +123,32 @@ fn word_of(groups: [u16; 4]) -> u64
         + groups[3] as u64
 }
 
-/// The order of the first groups that differ. They are compared as words, so that none is read from memory by its index.
+/// The order of the first that differ of four groups.
+#[inline(always)]
+fn word_order(left: [u16; 4], right: [u16; 4]) -> Ordering
+    ensures { result ≡ nat_cmp (joined 65536 left) (joined 65536 right) }
+{
+    word_of(left).cmp(&word_of(right))
+}
+
+/// The order of the first groups that differ. They are compared as words, so that no group is read by an index that varies.
 #[inline(always)]
 pub fn compare_groups(left: &[u16; 11], right: &[u16; 11]) -> Ordering
     ensures { result ≡ slice_cmp nat_cmp left.now right.now }
 {
-    let [a, b, c, d, e, f, g, h, i, j, k] = *left;
-    let [m, n, o, p, q, r, s, t, u, v, w] = *right;
-    word_of([a, b, c, d])
-        .cmp(&word_of([m, n, o, p]))
-        .then(word_of([e, f, g, h]).cmp(&word_of([q, r, s, t])))
-        .then(word_of([0, i, j, k]).cmp(&word_of([0, u, v, w])))
+    let first = word_order(
+        [left[0], left[1], left[2], left[3]],
+        [right[0], right[1], right[2], right[3]],
+    );
+    let middle = word_order(
+        [left[4], left[5], left[6], left[7]],
+        [right[4], right[5], right[6], right[7]],
+    );
+    let last = word_order(
+        [0, left[8], left[9], left[10]],
+        [0, right[8], right[9], right[10]],
+    );
+    first.then(middle).then(last)
 }
 
 /// The number that the first `count` groups make.

@@ -30,8 +30,10 @@ pub fn decimals_are_within_limits(decimal: &Decimal)
 /// The decimals `d` and `e` that two numbers are worth are in the order of the numbers, and are one where the numbers have
 /// one value: how they are written does not matter. Of two numbers one is below the other, or they have one value.
 pub fn order_is_of_written_numbers(a: &Number, b: &Number)
-    ensures below { (d e : ℤ) → IsWorth d a.now → IsWorth e b.now → ((d <ℤ e) ↔ IsBelow a.now b.now) }
-    ensures same { (d e : ℤ) → IsWorth d a.now → IsWorth e b.now → ((d ≡ e) ↔ IsSameValue a.now b.now) }
+    ensures below { (d e : ℤ) → IsWorth d a.now → IsWorth e b.now
+        → ((d <ℤ e) ↔ IsBelow a.now b.now) }
+    ensures same { (d e : ℤ) → IsWorth d a.now → IsWorth e b.now
+        → ((d ≡ e) ↔ IsSameValue a.now b.now) }
     ensures total { IsBelow a.now b.now ⊎ (IsSameValue a.now b.now ⊎ IsBelow b.now a.now) }
 {
     let _decimals = (a.decimal(), b.decimal());
@@ -46,7 +48,8 @@ pub fn a_text_writes_its_number(number: &Number)
 
 /// Two maps with the same tree under each key have the same pairs, in the same order.
 pub fn one_map(one: &Map, other: &Map)
-    ensures { ((k : List ℕ) → lookup k (pairs one.now) ≡ lookup k (pairs other.now)) → pairs one.now ≡ pairs other.now }
+    ensures { ((k : List ℕ) → lookup k (pairs one.now) ≡ lookup k (pairs other.now))
+        → pairs one.now ≡ pairs other.now }
 {
     let _members = one.iter();
     let _others = other.iter();

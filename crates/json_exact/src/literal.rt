@@ -2,9 +2,9 @@
 
 ghost use Rattle.std.specs.Prelude.{ℕ, ◌+◌, ◌*◌, ◌^◌, ◌≤◌, ◌<◌, ◌≡◌, Some, None, length, take, option_map, IfSome, MatchOption};
 ghost use Rattle.json_exact.specs.Literal.{number};
-ghost use Rattle.json_exact.specs.LiteralParts.{AreKept};
-ghost use Rattle.json_exact.specs.Reading.{Parts, digit_count, minus_of, whole_of, some_digits_of, fraction_of, counted, exponent_sign_of, size_of, capped, exponent_of, capped_exponent, literal_of};
-ghost use Rattle.json_exact.specs.SignificantDigits.{Holds};
+ghost use Rattle.json_exact.specs.inner.LiteralParts.{AreKept};
+ghost use Rattle.json_exact.specs.inner.Reading.{Parts, digit_count, minus_of, whole_of, some_digits_of, fraction_of, counted, exponent_sign_of, size_of, capped, exponent_of, capped_exponent, literal_of};
+ghost use Rattle.json_exact.specs.inner.SignificantDigits.{Holds};
 
 use crate::significant_digits::SignificantDigits;
 
@@ -34,7 +34,8 @@ fn push_digits(digits: &mut SignificantDigits, bytes: &[u8]) -> usize
     ensures count { result ≡ digit_count bytes.now }
     ensures within { result ≤ length bytes.now }
     ensures len { digits.new.len ≤ digits.old.len + result }
-    ensures holds { (n : ℕ) → Holds digits.old n → Holds digits.new (n * 10 ^ result + number (take result bytes.now)) }
+    ensures holds { (n : ℕ) → Holds digits.old n
+        → Holds digits.new (n * 10 ^ result + number (take result bytes.now)) }
 {
     let mut count = 0;
     let mut rest = bytes;
@@ -50,7 +51,7 @@ fn push_digits(digits: &mut SignificantDigits, bytes: &[u8]) -> usize
 }
 
 /// Whether `-` stands at the front, and what is behind it.
-#[tactic(auto, unfolding(crate::specs::Reading::minus_of))]
+#[tactic(auto, unfolding(crate::specs::inner::Reading::minus_of))]
 fn read_minus(bytes: &[u8]) -> (bool, &[u8])
     ensures read { (result.0, result.1.now) ≡ minus_of bytes.now }
     ensures len { length result.1.now ≤ length bytes.now }
@@ -62,7 +63,7 @@ fn read_minus(bytes: &[u8]) -> (bool, &[u8])
 }
 
 /// Whether an exponent is negated, and what is behind its sign.
-#[tactic(auto, unfolding(crate::specs::Reading::exponent_sign_of))]
+#[tactic(auto, unfolding(crate::specs::inner::Reading::exponent_sign_of))]
 fn read_exponent_sign(bytes: &[u8]) -> (bool, &[u8])
     ensures { (result.0, result.1.now) ≡ exponent_sign_of bytes.now }
 {
@@ -73,7 +74,7 @@ fn read_exponent_sign(bytes: &[u8]) -> (bool, &[u8])
 }
 
 /// The number of bytes that are all digits, at least one, or the largest `u64` where it is larger.
-#[tactic(auto, unfolding(crate::specs::Reading::size_of))]
+#[tactic(auto, unfolding(crate::specs::inner::Reading::size_of))]
 fn read_size(bytes: &[u8]) -> Option<u64>
     ensures { result ≡ option_map capped (size_of bytes.now) }
 {
@@ -94,9 +95,10 @@ fn read_size(bytes: &[u8]) -> Option<u64>
 }
 
 /// The exponent, which must end the text.
-#[tactic(auto, unfolding(crate::specs::Reading::exponent_of))]
+#[tactic(auto, unfolding(crate::specs::inner::Reading::exponent_of))]
 fn read_exponent(bytes: &[u8]) -> Option<Exponent>
-    ensures { option_map (λ e. (e.down, e.size)) result ≡ option_map capped_exponent (exponent_of bytes.now) }
+    ensures { option_map (λ e. (e.down, e.size)) result ≡ option_map capped_exponent
+        (exponent_of bytes.now) }
 {
     match bytes {
         [] => Some(Exponent {
@@ -113,12 +115,14 @@ fn read_exponent(bytes: &[u8]) -> Option<Exponent>
 }
 
 /// Pushes the digits of the whole part, and answers what is behind them.
-#[tactic(auto, using(crate::proofs::DigitTextLaws::front_length), unfolding(crate::specs::Reading::whole_of, crate::specs::Reading::is_whole_part))]
+#[tactic(auto, using(crate::proofs::DigitTextLaws::front_length), unfolding(crate::specs::inner::Reading::whole_of, crate::specs::inner::Reading::is_whole_part))]
 fn push_whole<'a>(digits: &mut SignificantDigits, bytes: &'a [u8]) -> Option<&'a [u8]>
     requires room { digits.old.len + length bytes.now < 2 ^ 64 }
     ensures read { option_map (λ r. r.now) result ≡ option_map (λ r. r.1) (whole_of bytes.now) }
-    ensures len { IfSome result (λ r. digits.new.len + length r.now ≤ digits.old.len + length bytes.now) }
-    ensures holds { (n : ℕ) → Holds digits.old n → IfSome (whole_of bytes.now) (λ r. Holds digits.new (n * 10 ^ length r.0 + number r.0)) }
+    ensures len { IfSome result
+        (λ r. digits.new.len + length r.now ≤ digits.old.len + length bytes.now) }
+    ensures holds { (n : ℕ) → Holds digits.old n
+        → IfSome (whole_of bytes.now) (λ r. Holds digits.new (n * 10 ^ length r.0 + number r.0)) }
 {
     let count = push_digits(digits, bytes);
     if count == 0 || count > 1 && bytes[0] == b'0' {
@@ -128,13 +132,16 @@ fn push_whole<'a>(digits: &mut SignificantDigits, bytes: &'a [u8]) -> Option<&'a
 }
 
 /// Pushes the digits of the fraction, and answers how many they are, and what is behind them.
-#[tactic(auto, using(crate::proofs::DigitTextLaws::front_length), unfolding(crate::specs::Reading::fraction_of, crate::specs::Reading::some_digits_of))]
+#[tactic(auto, using(crate::proofs::DigitTextLaws::front_length), unfolding(crate::specs::inner::Reading::fraction_of, crate::specs::inner::Reading::some_digits_of))]
 fn push_fraction<'a>(digits: &mut SignificantDigits, bytes: &'a [u8]) -> Option<(usize, &'a [u8])>
     requires room { digits.old.len + length bytes.now < 2 ^ 64 }
-    ensures read { option_map (λ r. (r.0, r.1.now)) result ≡ option_map counted (fraction_of bytes.now) }
+    ensures read { option_map (λ r. (r.0, r.1.now)) result ≡ option_map counted
+        (fraction_of bytes.now) }
     ensures within { IfSome result (λ r. r.0 ≤ length bytes.now) }
     ensures len { IfSome result (λ r. digits.new.len ≤ digits.old.len + length bytes.now) }
-    ensures holds { (n : ℕ) → Holds digits.old n → IfSome (fraction_of bytes.now) (λ r. Holds digits.new (n * 10 ^ length r.0 + number r.0)) }
+    ensures holds { (n : ℕ) → Holds digits.old n
+        → IfSome (fraction_of bytes.now)
+        (λ r. Holds digits.new (n * 10 ^ length r.0 + number r.0)) }
 {
     let [b'.', rest @ ..] = bytes else {
         return Some((0, bytes));
@@ -147,9 +154,10 @@ fn push_fraction<'a>(digits: &mut SignificantDigits, bytes: &'a [u8]) -> Option<
 }
 
 /// The parts of a literal, where the text is one.
-#[tactic(auto, unfolding(crate::specs::Reading::literal_of, crate::specs::Reading::with_whole, crate::specs::Reading::with_fraction, crate::specs::Reading::with_exponent))]
+#[tactic(auto, unfolding(crate::specs::inner::Reading::literal_of, crate::specs::inner::Reading::with_whole, crate::specs::inner::Reading::with_fraction, crate::specs::inner::Reading::with_exponent))]
 pub fn read_literal(bytes: &[u8]) -> Option<Literal>
-    ensures read { MatchOption result (literal_of bytes.now ≡ None) (λ l. (p : Parts) × (literal_of bytes.now ≡ Some p) × AreKept p l) }
+    ensures read { MatchOption result (literal_of bytes.now ≡ None)
+        (λ l. (p : Parts) × (literal_of bytes.now ≡ Some p) × AreKept p l) }
     ensures len { IfSome result (λ l. l.digits.len ≤ length bytes.now) }
     ensures within { IfSome result (λ l. l.fraction_digits ≤ length bytes.now) }
 {

@@ -87,10 +87,13 @@ impl Map {
     /// may take memory: where that could not be had, key and value are handed back, and the map is as before. For many keys
     /// take `from_members`, which sorts once.
     pub fn insert(&mut self, key: String, value: Value) -> Result<Option<Value>, InsertError>
-        ensures old { IfOk result (λ old. option_map tree old ≡ lookup (string_bytes key) (pairs self.old)) }
+        ensures old { IfOk result
+            (λ old. option_map tree old ≡ lookup (string_bytes key) (pairs self.old)) }
         ensures new { OnOk result ((k : List ℕ) → lookup k (pairs self.new)
             ≡ (if bytes_eq k (string_bytes key) then Some (tree value) else lookup k (pairs self.old))) }
-        ensures len { IfOk result (λ old. length (pairs self.new) ≡ length (pairs self.old) + (if is_some old then 0 else 1)) }
+        ensures len { IfOk result
+            (λ old. length (pairs self.new) ≡ length (pairs self.old) +
+            (if is_some old then 0 else 1)) }
         ensures only_new { OnErr result (lookup (string_bytes key) (pairs self.old) ≡ None) }
         ensures handed_back { IfErr result (λ error. (error.key ≡ key) × (error.value ≡ value)) }
         ensures err { OnErr result (self.new ≡ self.old) }
@@ -105,10 +108,13 @@ impl Map {
     ///
     /// `RepeatedKey` has the least place, from 0, whose key stands at an earlier place too. A refusal drops the list.
     pub fn from_members(alloc: Global, members: Vec<Member>) -> Result<Map, MapError>
-        ensures members { IfOk result (λ m. IsPermutation (map member_pair members.items) (pairs m)) }
-        ensures same { IfOk result (λ m. (k : List ℕ) → lookup k (pairs m) ≡ lookup k (map member_pair members.items)) }
+        ensures members { IfOk result
+            (λ m. IsPermutation (map member_pair members.items) (pairs m)) }
+        ensures same { IfOk result
+            (λ m. (k : List ℕ) → lookup k (pairs m) ≡ lookup k (map member_pair members.items)) }
         ensures distinct { IsOk result → AreDistinct (map key_of members.items) }
-        ensures repeated { (place : ℕ) → result ≡ Err (MapError.RepeatedKey place) → IsFirstRepeat (map key_of members.items) place }
+        ensures repeated { (place : ℕ) → result ≡ Err (MapError.RepeatedKey place)
+            → IsFirstRepeat (map key_of members.items) place }
     {
         match KeyMap::from_members(alloc, members) {
             Ok(members) => Ok(Map { members }),

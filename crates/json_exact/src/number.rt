@@ -19,8 +19,8 @@ impl Model for Number {
 
     ghost Value = { Written };
 
-    ghost use Rattle.json_exact.specs.NumberFields.{written_with, IsWrittenWith};
-    ghost use Rattle.json_exact.specs.NumberInverseLaws.{number_fields, number_fields-written_with};
+    ghost use Rattle.json_exact.specs.inner.NumberFields.{written_with, IsWrittenWith};
+    ghost use Rattle.json_exact.specs.inner.NumberInverseLaws.{number_fields, number_fields-written_with};
 
     ghost view = { written_with };
 

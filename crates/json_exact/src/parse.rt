@@ -4,10 +4,10 @@ ghost use Rattle.std.specs.Prelude.{ℕ, ◌+◌, ◌-◌, ◌*◌, ◌^◌, ◌
 ghost use Rattle.json_model.specs.Decimal.{Decimal as Written};
 ghost use Rattle.json_exact.specs.Exact.{IsWorth, IsWithinLimits};
 ghost use Rattle.json_exact.specs.Literal.{placed};
-ghost use Rattle.json_exact.specs.LiteralParts.{IsRead, IsFault, IsRefused};
+ghost use Rattle.json_exact.specs.inner.LiteralParts.{IsRead, IsFault, IsRefused};
 ghost use Rattle.json_exact.specs.Parsed.{IsNumber, IsNoLiteral, IsTooWide, IsOutOfRange};
-ghost use Rattle.json_exact.specs.Reading.{capped};
-ghost use Rattle.json_exact.specs.SignificantDigits.{Holds};
+ghost use Rattle.json_exact.specs.inner.Reading.{capped};
+ghost use Rattle.json_exact.specs.inner.SignificantDigits.{Holds};
 ghost use Rattle.json_exact.specs.declared.number_error.NumberError.{NumberError};
 
 use crate::decimal::Decimal;
@@ -23,7 +23,8 @@ const MOST_WHOLE_DIGITS: u64 = 131_072;
 
 /// How many fraction digits are written, or the largest `u64` where they are more.
 fn written_fraction_digits(count: u64, exponent: Exponent) -> u64
-    ensures { result ≡ (if exponent.down then capped (count + exponent.size) else count - exponent.size) }
+    ensures { result ≡
+        (if exponent.down then capped (count + exponent.size) else count - exponent.size) }
 {
     if exponent.down {
         count.saturating_add(exponent.size)
@@ -84,7 +85,9 @@ fn value(literal: Literal) -> Result<(Decimal, u16), NumberError>
 
 /// The value that a text writes, and how many fraction digits it writes.
 fn read(text: &str) -> Result<(Decimal, u16), NumberError>
-    ensures read { MatchResult result (λ r. (w : Written) × IsNumber text.now w × IsWorth r.0 w × (r.1 ≡ w.places)) (λ e. IsRefused e text.now) }
+    ensures read { MatchResult result
+        (λ r. (w : Written) × IsNumber text.now w × IsWorth r.0 w × (r.1 ≡ w.places))
+        (λ e. IsRefused e text.now) }
     ensures limits { IfOk result (λ r. IsWithinLimits r.0) }
 {
     match read_literal(text.as_bytes()) {

@@ -2,7 +2,7 @@
 
 ghost use Rattle.std.specs.Prelude.{◌-◌, ◌*◌, ◌^◌, ◌<◌, ◌≤◌, ◌≡◌, length, get_or};
 ghost use Rattle.json_exact.specs.Digits.{joined, AllBelow};
-ghost use Rattle.json_exact.specs.SignificantGroups.{HoldsGroups};
+ghost use Rattle.json_exact.specs.inner.SignificantGroups.{HoldsGroups};
 
 use crate::significant_groups::SignificantGroups;
 

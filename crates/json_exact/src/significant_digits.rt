@@ -1,7 +1,7 @@
 //! `SignificantDigits`: the digits of a number that are pushed one after another, as far as a `Decimal` keeps them.
 
 ghost use Rattle.std.specs.Prelude.{ℕ, ◌+◌, ◌*◌, ◌<◌, ◌≤◌, ◌^◌, ◌≡◌, false};
-ghost use Rattle.json_exact.specs.SignificantDigits.{Holds};
+ghost use Rattle.json_exact.specs.inner.SignificantDigits.{Holds};
 
 /// The first 38 digits of a number, from the first that is not 0.
 #[derive(Clone, Copy)]

@@ -2,7 +2,7 @@
 
 ghost use Rattle.std.specs.Prelude.{ℕ, ◌+◌, ◌*◌, ◌<◌, ◌≤◌, ◌^◌, ◌≡◌, false, IsTrue, ◌↔◌};
 ghost use Rattle.json_model.specs.Decimal.{HasNarrowDigits};
-ghost use Rattle.json_exact.specs.SignificantGroups.{HoldsGroups};
+ghost use Rattle.json_exact.specs.inner.SignificantGroups.{HoldsGroups};
 
 /// The first eleven groups of four digits of a number, from the first that is not 0.
 #[derive(Clone, Copy)]
@@ -31,7 +31,8 @@ impl SignificantGroups {
         requires group { group < 10000 }
         requires room { self.old.len + 1 < 2 ^ 64 }
         ensures len { self.new.len ≤ self.old.len + 1 }
-        ensures holds { (n : ℕ) → HoldsGroups self.old n → HoldsGroups self.new (n * 10000 + group) }
+        ensures holds { (n : ℕ) → HoldsGroups self.old n
+            → HoldsGroups self.new (n * 10000 + group) }
     {
         if self.len == 0 && group == 0 {
             return;

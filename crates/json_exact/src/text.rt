@@ -10,7 +10,8 @@ use std::alloc::{AllocError, Global};
 
 /// Writes a `-` where the value is below zero.
 fn push_sign(output: &mut String, decimal: &Decimal) -> Result<(), AllocError>
-    ensures { IfOk result (λ _. string_bytes output.new ≡ string_bytes output.old ++ sign_text decimal.now) }
+    ensures { IfOk result
+        (λ _. string_bytes output.new ≡ string_bytes output.old ++ sign_text decimal.now) }
 {
     if decimal.is_negative() {
         output.push('-')?;

@@ -43,7 +43,10 @@ bytes_trans [] (b ∷ ys) [] e f = absurd cc
 bytes_trans [] (b ∷ ys) (c ∷ zs) e f = refl
 bytes_trans (a ∷ xs) [] z e f = absurd cc
 bytes_trans (a ∷ xs) (b ∷ ys) [] e f = absurd cc
-bytes_trans (a ∷ xs) (b ∷ ys) (c ∷ zs) e f = led a c (bytes_before xs zs) (leads_trans a b c (bytes_before xs ys) (bytes_before ys zs) (bytes_before xs zs) (bytes_trans xs ys zs) (leads a b (bytes_before xs ys) e) (leads b c (bytes_before ys zs) f))
+bytes_trans (a ∷ xs) (b ∷ ys) (c ∷ zs) e f =
+    led a c (bytes_before xs zs)
+    (leads_trans a b c (bytes_before xs ys) (bytes_before ys zs) (bytes_before xs zs) (bytes_trans xs ys zs) (leads a b (bytes_before xs ys) e)
+    (leads b c (bytes_before ys zs) f))
 
 not_self : (a : ℕ) (r : Bool) → (r ≡ true → ⊥) → Leads a a r → ⊥
 not_self a r f (inl lt) = omega arith
@@ -54,12 +57,18 @@ bytes_not [] e = cc
 bytes_not (a ∷ xs) e = not_self a (bytes_before xs xs) (bytes_not xs) (leads a a (bytes_before xs xs) e)
 
 pub key_trans : (x y z : List ℕ) → key_before x y ≡ true → key_before y z ≡ true → key_before x z ≡ true
-key_trans x y z e f = led (length x) (length z) (bytes_before x z) (leads_trans (length x) (length y) (length z) (bytes_before x y) (bytes_before y z) (bytes_before x z) (bytes_trans x y z) (leads (length x) (length y) (bytes_before x y) e) (leads (length y) (length z) (bytes_before y z) f))
+key_trans x y z e f =
+    led (length x) (length z) (bytes_before x z)
+    (leads_trans (length x) (length y) (length z) (bytes_before x y) (bytes_before y z) (bytes_before x z) (bytes_trans x y z)
+    (leads (length x) (length y) (bytes_before x y) e) (leads (length y) (length z) (bytes_before y z) f))
 
 pub not_before : (x y : List ℕ) → key_before x y ≡ true → x ≡ y → ⊥
-not_before x y e same = let h : key_before x x ≡ true = ap (key_before x) same ∙ e in not_self (length x) (bytes_before x x) (bytes_not x) (leads (length x) (length x) (bytes_before x x) h)
+not_before x y e same =
+    let h : key_before x x ≡ true = ap (key_before x) same ∙ e in
+    not_self (length x) (bytes_before x x) (bytes_not x) (leads (length x) (length x) (bytes_before x x) h)
 
-all_after : (x y : List ℕ) (ks : List (List ℕ)) → key_before x y ≡ true → AllByRecursion (λ z. key_before y z ≡ true) ks → AllByRecursion (λ z. key_before x z ≡ true) ks
+all_after : (x y : List ℕ) (ks : List (List ℕ)) → key_before x y ≡ true → AllByRecursion (λ z. key_before y z ≡ true) ks
+    → AllByRecursion (λ z. key_before x z ≡ true) ks
 all_after x y [] e h = tt
 all_after x y (z ∷ ks) e h = (key_trans x y z e h.0, all_after x y ks e h.1)
 
@@ -87,23 +96,27 @@ bytes_total : (x y : List ℕ) → (bytes_before x y ≡ true) ⊎ ((x ≡ y) �
 bytes_total [] [] = inr (inl refl)
 bytes_total [] (b ∷ ys) = inl refl
 bytes_total (a ∷ xs) [] = inr (inr refl)
-bytes_total (a ∷ xs) (b ∷ ys) = elim (leads_total a b (bytes_before xs ys ≡ true) (bytes_before ys xs ≡ true) (xs ≡ ys) (bytes_before xs ys) (bytes_before ys xs) (λ e. e) (λ e. e) (bytes_total xs ys)) [
-  | inl l ↦ inl (led a b (bytes_before xs ys) l)
-  | inr t ↦ elim t [
-    | inl e ↦ inr (inl (ap (λ (n : ℕ). n ∷ xs) e.0 ∙ ap (λ (zs : List ℕ). b ∷ zs) e.1))
-    | inr l ↦ inr (inr (led b a (bytes_before ys xs) l))
-  ]
-]
+bytes_total (a ∷ xs) (b ∷ ys) =
+    elim (leads_total a b (bytes_before xs ys ≡ true) (bytes_before ys xs ≡ true) (xs ≡ ys) (bytes_before xs ys) (bytes_before ys xs) (λ e. e)
+    (λ e. e) (bytes_total xs ys)) [
+      | inl l ↦ inl (led a b (bytes_before xs ys) l)
+      | inr t ↦ elim t [
+        | inl e ↦ inr (inl (ap (λ (n : ℕ). n ∷ xs) e.0 ∙ ap (λ (zs : List ℕ). b ∷ zs) e.1))
+        | inr l ↦ inr (inr (led b a (bytes_before ys xs) l))
+      ]
+    ]
 
 -- of two keys one comes first, or they are one key
 pub key_total : (x y : List ℕ) → (key_before x y ≡ true) ⊎ ((x ≡ y) ⊎ (key_before y x ≡ true))
-key_total x y = elim (leads_total (length x) (length y) (bytes_before x y ≡ true) (bytes_before y x ≡ true) (x ≡ y) (bytes_before x y) (bytes_before y x) (λ e. e) (λ e. e) (bytes_total x y)) [
-  | inl l ↦ inl (led (length x) (length y) (bytes_before x y) l)
-  | inr t ↦ elim t [
-    | inl e ↦ inr (inl e.1)
-    | inr l ↦ inr (inr (led (length y) (length x) (bytes_before y x) l))
-  ]
-]
+key_total x y =
+    elim (leads_total (length x) (length y) (bytes_before x y ≡ true) (bytes_before y x ≡ true) (x ≡ y) (bytes_before x y) (bytes_before y x)
+    (λ e. e) (λ e. e) (bytes_total x y)) [
+      | inl l ↦ inl (led (length x) (length y) (bytes_before x y) l)
+      | inr t ↦ elim t [
+        | inl e ↦ inr (inl e.1)
+        | inr l ↦ inr (inr (led (length y) (length x) (bytes_before y x) l))
+      ]
+    ]
 
 -- where keys rise, the first comes before the second
 pub rises_next : (x y : List ℕ) (ks : List (List ℕ)) → rises (x ∷ y ∷ ks) ≡ true → key_before x y ≡ true

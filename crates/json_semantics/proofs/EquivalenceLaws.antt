@@ -6,7 +6,7 @@ use Rattle.json_model.specs.Rising.{KeysRise, KeysRiseInElements, KeysRiseInMemb
 use Rattle.json_model.specs.Same.{Same, SameScalar, SameElements}
 use Rattle.json_model.specs.Tree.{Scalar, null, boolean, number, string, Tree, scalar, array, object, Elements, no_elements, element, Members, no_members, member}
 use Rattle.json_exact.proofs.SignLaws.{turn, cancel}
-use Rattle.json_exact.specs.DecimalInverseLaws.{ten_pos}
+use Rattle.json_exact.specs.inner.DecimalInverseLaws.{ten_pos}
 use Rattle.json_traits.proofs.PlaceLaws.{SameAtPlaces, same_places, all_found}
 
 -- a tree is the same as itself

@@ -11,8 +11,8 @@ use Rattle.json_model.specs.Tree.{number, scalar}
 use Rattle.json_exact.specs.Digits.{joined as joined_in}
 use Rattle.json_exact.specs.Exact.{parts, signed, IsWorth}
 use Rattle.json_exact.specs.Groups.{groups_of as exact_groups, lifted, AreGroups, AreWorth}
-use Rattle.json_exact.specs.DecimalInverseLaws.{abs_signed}
-use Rattle.json_exact.specs.NumberInverseLaws.{signed_times}
+use Rattle.json_exact.specs.inner.DecimalInverseLaws.{abs_signed}
+use Rattle.json_exact.specs.inner.NumberInverseLaws.{signed_times}
 use Rattle.json_exact.proofs.NarrowLaws.{narrow_more}
 use Rattle.json_exact.proofs.WorthLaws.{one_record}
 use Rattle.jsonb_layout.specs.Numeric.{joined, all_below, are_groups, IsValue}

@@ -10,7 +10,7 @@ use Rattle.std.specs.declared.cmp.Ordering.TheVariants.{Less, Equal, Greater}
 use Rattle.std.proofs.Math.IntN.{*ℤ-one, pos-*ℤ-pos}
 use Rattle.json_model.specs.Decimal.{Decimal as Written, IsBelow, IsWhole}
 use Rattle.json_exact.specs.Exact.{IsWorth, exactly, parts}
-use Rattle.json_exact.specs.DecimalInverseLaws.{ten_pos}
+use Rattle.json_exact.specs.inner.DecimalInverseLaws.{ten_pos}
 use Rattle.json_exact.proofs.SignLaws.{turn}
 use Rattle.json_exact.proofs.WorthLaws.{parts_pos, whole_as_written}
 use Rattle.json_exact.proofs.WrittenOrderLaws.{up, down, below_as_written}

@@ -10,9 +10,9 @@ use Rattle.std.proofs.lemmas.Bool.Decides.{eqb_tells}
 use Rattle.std.proofs.lemmas.Int.{by_lt_z}
 use Rattle.std.proofs.lemmas.Slice.Eq.{bytes_eq-Decides}
 use Rattle.json_exact.proofs.SignLaws.{abs_times}
-use Rattle.json_exact.specs.DecimalInverseLaws.{ten_pos}
+use Rattle.json_exact.specs.inner.DecimalInverseLaws.{ten_pos}
 use Rattle.json_exact.specs.Exact.{signed}
-use Rattle.json_exact.specs.NumberInverseLaws.{divided_times}
+use Rattle.json_exact.specs.inner.NumberInverseLaws.{divided_times}
 use Rattle.json_model.specs.Decimal.{Decimal, IsBelow, IsWhole}
 use Rattle.json_traits.specs.Weights.{same}
 use Rattle.json_traits.specs.declared.types.json_type.JsonType.{JsonType}

@@ -7,7 +7,7 @@ use Rattle.std.proofs.lemmas.Option.{IfSome_then}
 use Rattle.std.proofs.lemmas.Slice.Eq.{bytes_eq-Decides}
 use Rattle.json_exact.proofs.SignLaws.{cancel, turn}
 use Rattle.json_exact.proofs.WrittenOrderLaws.{down, up}
-use Rattle.json_exact.specs.DecimalInverseLaws.{ten_pos}
+use Rattle.json_exact.specs.inner.DecimalInverseLaws.{ten_pos}
 use Rattle.json_model.specs.Decimal.{Decimal, IsBelow, IsSameValue, IsWhole}
 use Rattle.json_model.specs.Parts.{as_number, as_string, elements_of, lookup, pairs_in, pairs_of, points, trees_in}
 use Rattle.json_model.specs.Rising.{KeysRise}

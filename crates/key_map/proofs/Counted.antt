@@ -27,7 +27,8 @@ count_none q (x ∷ xs) h =
     omega arith
 
 repeats_later : (x : List ℕ) (xs : List (List ℕ)) (i : ℕ) → RepeatsAt xs i → RepeatsAt (x ∷ xs) (suc i)
-repeats_later x xs i r = let w = r.within in let b = r.before in record { within = omega arith; earlier = suc r.earlier; before = omega arith; same = r.same }
+repeats_later x xs i r =
+    let w = r.within in let b = r.before in record { within = omega arith; earlier = suc r.earlier; before = omega arith; same = r.same }
 
 repeats_first : (x : List ℕ) (xs : List (List ℕ)) (i : ℕ) → i < length xs → slice_get xs i ≡ Some x → RepeatsAt (x ∷ xs) (suc i)
 repeats_first x xs i lt e = record { within = omega arith; earlier = 0; before = omega arith; same = sym e }
@@ -41,10 +42,12 @@ once_distinct (x ∷ xs) h q = go (bytes_eq q x) refl (once_distinct xs (λ i r.
     go true e rest =
         let s : q ≡ x = (bytes_eq-Decides q x).0 e in
         let g = count_none q xs (λ i lt t. h (suc i) (repeats_first x xs i lt (t ∙ ap (λ (z : List ℕ). Some z) s))) in
-        let t : count_by (bytes_eq q) (x ∷ xs) ≡ 1 + count_by (bytes_eq q) xs = count_cons q x xs ∙ ap (λ b. cond b 1 0 + count_by (bytes_eq q) xs) e in
+        let t : count_by (bytes_eq q) (x ∷ xs) ≡ 1 + count_by (bytes_eq q) xs =
+        count_cons q x xs ∙ ap (λ b. cond b 1 0 + count_by (bytes_eq q) xs) e in
         omega arith
     go false e rest =
-        let t : count_by (bytes_eq q) (x ∷ xs) ≡ 0 + count_by (bytes_eq q) xs = count_cons q x xs ∙ ap (λ b. cond b 1 0 + count_by (bytes_eq q) xs) e in
+        let t : count_by (bytes_eq q) (x ∷ xs) ≡ 0 + count_by (bytes_eq q) xs =
+        count_cons q x xs ∙ ap (λ b. cond b 1 0 + count_by (bytes_eq q) xs) e in
         omega arith
 
 count_more : (q x : List ℕ) (xs : List (List ℕ)) → count_by (bytes_eq q) xs ≤ count_by (bytes_eq q) (x ∷ xs)
@@ -56,7 +59,8 @@ count_first x xs = count_cons x x xs ∙ ap (λ b. cond b 1 0 + count_by (bytes_
 count_twice : (x y : List ℕ) (xs : List (List ℕ)) → x ≡ y → count_by (bytes_eq x) (x ∷ y ∷ xs) ≤ 1 → ⊥
 count_twice x y xs e h =
     let s = count_first x (y ∷ xs) in
-    let t : count_by (bytes_eq x) (y ∷ xs) ≡ 1 + count_by (bytes_eq x) xs = count_cons x y xs ∙ ap (λ b. cond b 1 0 + count_by (bytes_eq x) xs) (same_bytes x y e) in
+    let t : count_by (bytes_eq x) (y ∷ xs) ≡ 1 + count_by (bytes_eq x) xs =
+    count_cons x y xs ∙ ap (λ b. cond b 1 0 + count_by (bytes_eq x) xs) (same_bytes x y e) in
     omega arith
 
 module _ {V : Type 0} where
@@ -69,14 +73,16 @@ module _ {V : Type 0} where
       neighbours_apart (n ∷ ms) (λ q. let t = count_more q (key_of m) (map key_of (n ∷ ms)) in let s = h q in omega arith) k d (omega arith) e
 
   -- members with distinct keys rise once they are sorted
-  pub rises_moved : (ms ns : List (Member V)) → IsPermutation ms ns → AreDistinct (map key_of ms) → IsSortedByKey key_of key_cmp ns → rises (map key_of ns) ≡ true
+  pub rises_moved : (ms ns : List (Member V)) → IsPermutation ms ns → AreDistinct (map key_of ms) → IsSortedByKey key_of key_cmp ns
+      → rises (map key_of ns) ≡ true
   rises_moved ms ns p h s =
       rises_from_sorted ns s
       (neighbours_apart ns (λ q. let t = sum_by-IsPermutation (λ x. cond (bytes_eq q x) 1 0) (map key_of ms) (map key_of ns)
       (IsPermutation-map key_of ms ns p) in let o = once_distinct (map key_of ms) h q in omega arith))
 
   -- and have the look-ups that they had
-  pub lookups_moved : (ms ns : List (Member V)) → IsPermutation ms ns → rises (map key_of ns) ≡ true → (k : List ℕ) → lookup k (map pair_of ns) ≡ lookup k (map pair_of ms)
+  pub lookups_moved : (ms ns : List (Member V)) → IsPermutation ms ns → rises (map key_of ns) ≡ true → (k : List ℕ)
+      → lookup k (map pair_of ns) ≡ lookup k (map pair_of ms)
   lookups_moved ms ns p e k =
       let moved = IsPermutation-map pair_of ms ns p in
       same_lookups (map pair_of ms) (map pair_of ns) (ap rises (keys_same ns) ∙ e)

@@ -28,7 +28,8 @@ before_differs x y e = other_bytes x y (not_before x y e)
 pub after_differs : (x y : List ℕ) → key_before x y ≡ true → bytes_eq y x ≡ false
 after_differs x y e = other_bytes y x (λ f. not_before x y e (sym f))
 
-all_before : (x y : List ℕ) (ks : List (List ℕ)) → key_before x y ≡ true → AllByRecursion (λ z. key_before y z ≡ true) ks → AllByRecursion (λ z. key_before x z ≡ true) ks
+all_before : (x y : List ℕ) (ks : List (List ℕ)) → key_before x y ≡ true → AllByRecursion (λ z. key_before y z ≡ true) ks
+    → AllByRecursion (λ z. key_before x z ≡ true) ks
 all_before x y [] e h = tt
 all_before x y (z ∷ ks) e h = (key_trans x y z e h.0, all_before x y ks e h.1)
 
@@ -38,13 +39,15 @@ module _ {V : Type 0} where
   lookup_before k [] h = refl
   lookup_before k (p ∷ ps) h = rw (before_differs k p.0 h.0) (lookup_before k ps h.1)
 
-  all_at : (P : List ℕ → Type 0) (ps : List (List ℕ × V)) (i : ℕ) (d : List ℕ × V) → i < length ps → AllByRecursion P (keys_of ps) → P (get_or ps i d).0
+  all_at : (P : List ℕ → Type 0) (ps : List (List ℕ × V)) (i : ℕ) (d : List ℕ × V) → i < length ps → AllByRecursion P (keys_of ps)
+      → P (get_or ps i d).0
   all_at P [] i d lt h = absurd (omega arith)
   all_at P (p ∷ ps) zero d lt h = h.0
   all_at P (p ∷ ps) (suc i) d lt h = all_at P ps i d (omega arith) h.1
 
   -- the value of a pair is found under its key
-  pub lookup_at : (ps : List (List ℕ × V)) → rises (keys_of ps) ≡ true → (i : ℕ) (d : List ℕ × V) → i < length ps → lookup (get_or ps i d).0 ps ≡ Some (get_or ps i d).1
+  pub lookup_at : (ps : List (List ℕ × V)) → rises (keys_of ps) ≡ true → (i : ℕ) (d : List ℕ × V) → i < length ps
+      → lookup (get_or ps i d).0 ps ≡ Some (get_or ps i d).1
   lookup_at [] e i d lt = absurd (omega arith)
   lookup_at (p ∷ ps) e zero d lt = rw (same_bytes p.0 p.0 refl) refl
   lookup_at (p ∷ ps) e (suc i) d lt =
@@ -95,7 +98,8 @@ module _ {V : Type 0} where
       go None (Some v) h j = absurd (let c = g (k, v) (contains_found k qs v j) in missed_at k ps h v c.0 c.1 c.2)
 
   -- of two lists that rise and have the same look-ups, neither begins with a key before the other's
-  not_first : (p q : List ℕ × V) (ps qs : List (List ℕ × V)) → rises (keys_of (q ∷ qs)) ≡ true → lookup p.0 (p ∷ ps) ≡ lookup p.0 (q ∷ qs) → key_before p.0 q.0 ≡ true → ⊥
+  not_first : (p q : List ℕ × V) (ps qs : List (List ℕ × V)) → rises (keys_of (q ∷ qs)) ≡ true → lookup p.0 (p ∷ ps) ≡ lookup p.0 (q ∷ qs)
+      → key_before p.0 q.0 ≡ true → ⊥
   not_first p q ps qs f h b =
       let none = lookup_before p.0 (q ∷ qs) (b, all_before p.0 q.0 (keys_of qs) b (rises_all q.0 (keys_of qs) f)) in
       let some : lookup p.0 (p ∷ ps) ≡ Some p.1 = rw (same_bytes p.0 p.0 refl) refl in
@@ -132,7 +136,8 @@ module _ {V : Type 0} where
   ]
 
   -- two lists whose keys rise, with the same look-ups, are one list
-  pub one_list : (ps qs : List (List ℕ × V)) → rises (keys_of ps) ≡ true → rises (keys_of qs) ≡ true → ((k : List ℕ) → lookup k ps ≡ lookup k qs) → ps ≡ qs
+  pub one_list : (ps qs : List (List ℕ × V)) → rises (keys_of ps) ≡ true → rises (keys_of qs) ≡ true → ((k : List ℕ) → lookup k ps ≡ lookup k qs)
+      → ps ≡ qs
   one_list [] [] e f h = refl
   one_list [] (q ∷ qs) e f h = let s = rw (same_bytes q.0 q.0 refl) at (h q.0) in absurd cc
   one_list (p ∷ ps) [] e f h = let s = rw (same_bytes p.0 p.0 refl) at (h p.0) in absurd cc

@@ -35,12 +35,14 @@ module _ {V : Type 0} where
   keys_same [] = refl
   keys_same (m ∷ ms) = ap (λ l. key_of m ∷ l) (keys_same ms)
 
-  all_at : (P : List ℕ → Type 0) (ms : List (Member V)) (i : ℕ) (d : Member V) → i < length ms → AllByRecursion P (map key_of ms) → P (key_of (get_or ms i d))
+  all_at : (P : List ℕ → Type 0) (ms : List (Member V)) (i : ℕ) (d : Member V) → i < length ms → AllByRecursion P (map key_of ms)
+      → P (key_of (get_or ms i d))
   all_at P [] i d lt h = absurd (omega arith)
   all_at P (m ∷ ms) zero d lt h = h.0
   all_at P (m ∷ ms) (suc i) d lt h = all_at P ms i d (omega arith) h.1
 
-  adjacent : (ms : List (Member V)) → rises (map key_of ms) ≡ true → (k : ℕ) (d : Member V) → suc k < length ms → key_before (key_of (get_or ms (suc k) d)) (key_of (get_or ms k d)) ≡ false
+  adjacent : (ms : List (Member V)) → rises (map key_of ms) ≡ true → (k : ℕ) (d : Member V) → suc k < length ms
+      → key_before (key_of (get_or ms (suc k) d)) (key_of (get_or ms k d)) ≡ false
   adjacent [] e k d lt = absurd (omega arith)
   adjacent (m ∷ []) e k d lt = absurd (omega arith)
   adjacent (m ∷ n ∷ ms) e zero d lt = not_after (key_of m) (key_of n) (rises_next (key_of m) (key_of n) (map key_of ms) e)
@@ -48,18 +50,22 @@ module _ {V : Type 0} where
 
   -- members whose keys rise are sorted by them
   pub sorted_from_rises : (ms : List (Member V)) → rises (map key_of ms) ≡ true → IsSortedByKey key_of key_cmp ms
-  sorted_from_rises ms e k d low high = rw add-one (before_is (key_of (get_or ms (suc k) d)) (key_of (get_or ms k d)) ∙ adjacent ms e k d (omega arith))
+  sorted_from_rises ms e k d low high =
+      rw add-one (before_is (key_of (get_or ms (suc k) d)) (key_of (get_or ms k d)) ∙ adjacent ms e k d (omega arith))
 
   -- the value of the member that has the key
-  pub lookup_stands : (ms : List (Member V)) (key : List ℕ) (i : ℕ) (d : Member V) → rises (map key_of ms) ≡ true → StandsAt ms key i → lookup key (map pair_of ms) ≡ Some (get_or ms i d).value
+  pub lookup_stands : (ms : List (Member V)) (key : List ℕ) (i : ℕ) (d : Member V) → rises (map key_of ms) ≡ true → StandsAt ms key i
+      → lookup key (map pair_of ms) ≡ Some (get_or ms i d).value
   lookup_stands ms key i d e s =
       let r : rises (keys_of (map pair_of ms)) ≡ true = ap rises (keys_same ms) ∙ e in
       let g = get_or-map pair_of ms i d (pair_of d) s.within in
       let n : i < length (map pair_of ms) = omega (arith, length-map ms pair_of, s.within) in
       let l = lookup_at (map pair_of ms) r i (pair_of d) n in
-      ap (λ k. lookup k (map pair_of ms)) (sym (s.at d)) ∙ ap (λ (p : List ℕ × V). lookup p.0 (map pair_of ms)) (sym g) ∙ l ∙ ap (λ (p : List ℕ × V). Some p.1) g
+      ap (λ k. lookup k (map pair_of ms)) (sym (s.at d)) ∙ ap (λ (p : List ℕ × V). lookup p.0 (map pair_of ms)) (sym g) ∙ l
+      ∙ ap (λ (p : List ℕ × V). Some p.1) g
 
-  lookup_none : (ms : List (Member V)) (key : List ℕ) → ((i : ℕ) (d : Member V) → i < length ms → bytes_eq key (key_of (get_or ms i d)) ≡ false) → lookup key (map pair_of ms) ≡ None
+  lookup_none : (ms : List (Member V)) (key : List ℕ) → ((i : ℕ) (d : Member V) → i < length ms → bytes_eq key (key_of (get_or ms i d)) ≡ false)
+      → lookup key (map pair_of ms) ≡ None
   lookup_none [] key h = refl
   lookup_none (m ∷ ms) key h = rw (h 0 m (omega arith)) (lookup_none ms key (λ i d lt. h (suc i) d (omega arith)))
 
@@ -79,7 +85,8 @@ module _ {V : Type 0} where
   }
 
   -- the keys still rise where a member goes in at its place
-  pub rises_inserted : (ms : List (Member V)) (m : Member V) (i : ℕ) → rises (map key_of ms) ≡ true → GoesAt ms (key_of m) i → rises (map key_of (insert ms i m)) ≡ true
+  pub rises_inserted : (ms : List (Member V)) (m : Member V) (i : ℕ) → rises (map key_of ms) ≡ true → GoesAt ms (key_of m) i
+      → rises (map key_of (insert ms i m)) ≡ true
   rises_inserted [] m zero e g = refl
   rises_inserted [] m (suc i) e g = let h = g.within in absurd (omega arith)
   rises_inserted (x ∷ xs) m zero e g = rises_cons (key_of m) (key_of x) (map key_of xs) (g.above 0 m (omega arith) (omega arith)) e
@@ -87,7 +94,8 @@ module _ {V : Type 0} where
       (rises_inserted xs m 0 (rises_tail (key_of x) (map key_of xs) e) (goes_tail x xs (key_of m) 0 g))
   rises_inserted (x ∷ []) m (suc (suc i)) e g = let h = g.within in absurd (omega arith)
   rises_inserted (x ∷ y ∷ ys) m (suc (suc i)) e g = rises_cons (key_of x) (key_of y) (map key_of (insert ys i m))
-      (rises_next (key_of x) (key_of y) (map key_of ys) e) (rises_inserted (y ∷ ys) m (suc i) (rises_tail (key_of x) (map key_of (y ∷ ys)) e) (goes_tail x (y ∷ ys) (key_of m) (suc i) g))
+      (rises_next (key_of x) (key_of y) (map key_of ys) e)
+      (rises_inserted (y ∷ ys) m (suc i) (rises_tail (key_of x) (map key_of (y ∷ ys)) e) (goes_tail x (y ∷ ys) (key_of m) (suc i) g))
 
   -- of a first pair with another key, and of what is put behind it
   step_over : (k x key : List ℕ) (v : V) (w : V) (r s : Option V) → bytes_eq x key ≡ false → r ≡ (if bytes_eq k key then Some v else s)
@@ -105,32 +113,38 @@ module _ {V : Type 0} where
   lookup_inserted [] m (suc i) g k = let h = g.within in absurd (omega arith)
   lookup_inserted (x ∷ xs) m zero g k = refl
   lookup_inserted (x ∷ xs) m (suc i) g k = step_over k (key_of x)
-      (key_of m) m.value x.value _ _ (before_differs (key_of x) (key_of m) (g.below 0 m (omega arith) (omega arith))) (lookup_inserted xs m i (goes_tail x xs (key_of m) i g) k)
+      (key_of m) m.value x.value _ _ (before_differs (key_of x) (key_of m) (g.below 0 m (omega arith) (omega arith)))
+      (lookup_inserted xs m i (goes_tail x xs (key_of m) i g) k)
 
-  first_over : (k x : List ℕ) (v w : V) (s : Option V) → (if bytes_eq k x then Some v else s) ≡ (if bytes_eq k x then Some v else (if bytes_eq k x then Some w else s))
+  first_over : (k x : List ℕ) (v w : V) (s : Option V)
+      → (if bytes_eq k x then Some v else s) ≡ (if bytes_eq k x then Some v else (if bytes_eq k x then Some w else s))
   first_over k x v w s = go (bytes_eq k x)
     where
       go : (b : Bool) → (if b then Some v else s) ≡ (if b then Some v else (if b then Some w else s))
       go true = refl
       go false = refl
 
-  key_after : (m : Member V) (ms : List (Member V)) → rises (map key_of (m ∷ ms)) ≡ true → (i : ℕ) (d : Member V) → i < length ms → key_before (key_of m) (key_of (get_or ms i d)) ≡ true
+  key_after : (m : Member V) (ms : List (Member V)) → rises (map key_of (m ∷ ms)) ≡ true → (i : ℕ) (d : Member V) → i < length ms
+      → key_before (key_of m) (key_of (get_or ms i d)) ≡ true
   key_after m ms e i d lt = all_at (λ z. key_before (key_of m) z ≡ true) ms i d lt (rises_all (key_of m) (map key_of ms) e)
 
   -- the look-ups after the member at a place has another value
   pub lookup_replaced : (ms : List (Member V)) → rises (map key_of ms) ≡ true → (i : ℕ) (d : Member V) → i < length ms → (v : V) (k : List ℕ)
-      → lookup k (map pair_of (slice_set ms i (with_value (get_or ms i d) v))) ≡ (if bytes_eq k (key_of (get_or ms i d)) then Some v else lookup k (map pair_of ms))
+      → lookup k (map pair_of (slice_set ms i (with_value (get_or ms i d) v))) ≡
+      (if bytes_eq k (key_of (get_or ms i d)) then Some v else lookup k (map pair_of ms))
   lookup_replaced [] e i d lt v k = absurd (omega arith)
   lookup_replaced (m ∷ ms) e zero d lt v k = first_over k (key_of m) v m.value (lookup k (map pair_of ms))
   lookup_replaced (m ∷ ms) e (suc i) d lt v k = step_over k (key_of m)
       (key_of (get_or ms i d)) v m.value _ _ (before_differs (key_of m) (key_of (get_or ms i d)) (key_after m ms e i d (omega arith)))
       (lookup_replaced ms (rises_tail (key_of m) (map key_of ms) e) i d (omega arith) v k)
 
-  rises_apart : (ms : List (Member V)) → ((k : ℕ) (d : Member V) → suc k < length ms → is_lt (key_cmp (key_of (get_or ms (suc k) d)) (key_of (get_or ms k d))) ≡ false)
+  rises_apart : (ms : List (Member V))
+      → ((k : ℕ) (d : Member V) → suc k < length ms → is_lt (key_cmp (key_of (get_or ms (suc k) d)) (key_of (get_or ms k d))) ≡ false)
       → ((k : ℕ) (d : Member V) → suc k < length ms → key_of (get_or ms k d) ≡ key_of (get_or ms (suc k) d) → ⊥) → rises (map key_of ms) ≡ true
   rises_apart [] s f = refl
   rises_apart (m ∷ []) s f = refl
-  rises_apart (m ∷ n ∷ ms) s f = rises_cons (key_of m) (key_of n) (map key_of ms) (next_before (key_of m) (key_of n) (s 0 m (omega arith)) (f 0 m (omega arith)))
+  rises_apart (m ∷ n ∷ ms) s f =
+      rises_cons (key_of m) (key_of n) (map key_of ms) (next_before (key_of m) (key_of n) (s 0 m (omega arith)) (f 0 m (omega arith)))
       (rises_apart (n ∷ ms) (λ k d lt. s (suc k) d (omega arith)) (λ k d lt. f (suc k) d (omega arith)))
 
   -- sorted members of which no two neighbours have one key rise
@@ -151,10 +165,13 @@ module _ {V : Type 0} where
       }
 
   -- the keys rise as before where the member at a place has another value
-  pub rises_replaced : (ms : List (Member V)) (i : ℕ) (d : Member V) (v : V) → rises (map key_of ms) ≡ true → rises (map key_of (slice_set ms i (with_value (get_or ms i d) v))) ≡ true
+  pub rises_replaced : (ms : List (Member V)) (i : ℕ) (d : Member V) (v : V) → rises (map key_of ms) ≡ true
+      → rises (map key_of (slice_set ms i (with_value (get_or ms i d) v))) ≡ true
   rises_replaced ms i d v e = ap rises (map-set_same key_of ms i (with_value (get_or ms i d) v) d refl) ∙ e
 
   -- the look-ups after the member that has the key has another value
-  pub lookup_put : (ms : List (Member V)) (key : List ℕ) (i : ℕ) (d : Member V) → rises (map key_of ms) ≡ true → StandsAt ms key i → (v : V) (k : List ℕ)
+  pub lookup_put : (ms : List (Member V)) (key : List ℕ) (i : ℕ) (d : Member V) → rises (map key_of ms) ≡ true → StandsAt ms key i
+      → (v : V) (k : List ℕ)
       → lookup k (map pair_of (slice_set ms i (with_value (get_or ms i d) v))) ≡ (if bytes_eq k key then Some v else lookup k (map pair_of ms))
-  lookup_put ms key i d e s v k = lookup_replaced ms e i d s.within v k ∙ ap (λ z. if bytes_eq k z then Some v else lookup k (map pair_of ms)) (s.at d)
+  lookup_put ms key i d e s v k =
+      lookup_replaced ms e i d s.within v k ∙ ap (λ z. if bytes_eq k z then Some v else lookup k (map pair_of ms)) (s.at d)

@@ -37,7 +37,8 @@ found_early (x ∷ xs) zero key e lt h = absurd (omega arith)
 found_early (x ∷ xs) (suc i) key zero lt h = let s : x ≡ key = cc in rw (same_bytes x key s) refl
 found_early (x ∷ xs) (suc i) key (suc e) lt h = ap (λ b. bytes_eq x key || b) (found_early xs i key e (omega arith) h) ∙ or_true (bytes_eq x key)
 
-early_next : (keys : List (List ℕ)) (i : ℕ) (key q : List ℕ) → slice_get keys i ≡ Some key → is_early keys (suc i) q ≡ cond (bytes_eq key q) true (is_early keys i q)
+early_next : (keys : List (List ℕ)) (i : ℕ) (key q : List ℕ) → slice_get keys i ≡ Some key
+    → is_early keys (suc i) q ≡ cond (bytes_eq key q) true (is_early keys i q)
 early_next [] i key q h = absurd cc
 early_next (x ∷ xs) zero key q h = let s : x ≡ key = cc in rw (← s) (go (bytes_eq x q))
   where
@@ -52,7 +53,8 @@ early_next (x ∷ xs) (suc i) key q h = ap (λ b. bytes_eq x q || b) (early_next
     go false b r = refl
 
 -- one more key
-pub early_more : (keys : List (List ℕ)) (i : ℕ) (key q : List ℕ) → slice_get keys i ≡ Some key → is_early keys (i + 1) q ≡ cond (bytes_eq key q) true (is_early keys i q)
+pub early_more : (keys : List (List ℕ)) (i : ℕ) (key q : List ℕ) → slice_get keys i ≡ Some key
+    → is_early keys (i + 1) q ≡ cond (bytes_eq key q) true (is_early keys i q)
 early_more keys i key q h = rw add-one (early_next keys i key q h)
 
 get_within : (keys : List (List ℕ)) (i : ℕ) (key : List ℕ) → slice_get keys i ≡ Some key → i < length keys
@@ -62,7 +64,8 @@ get_within (x ∷ xs) (suc i) key h = let t = get_within xs i key h in omega ari
 
 -- a key that stands among the earlier ones repeats
 pub repeats_early : (keys : List (List ℕ)) (i : ℕ) (key : List ℕ) → slice_get keys i ≡ Some key → is_early keys i key ≡ true → RepeatsAt keys i
-repeats_early keys i key h e = let t = early_found keys i key e in record { within = get_within keys i key h; earlier = t.0; before = t.1; same = t.2 ∙ sym h }
+repeats_early keys i key h e =
+    let t = early_found keys i key e in record { within = get_within keys i key h; earlier = t.0; before = t.1; same = t.2 ∙ sym h }
 
 -- one that does not stand among them does not
 pub new_apart : (keys : List (List ℕ)) (i : ℕ) (key : List ℕ) → slice_get keys i ≡ Some key → is_early keys i key ≡ false → RepeatsAt keys i → ⊥

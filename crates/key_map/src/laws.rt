@@ -10,7 +10,8 @@ use crate::map::KeyMap;
 pub fn keys_are_ordered(keys: &[u8])
     ensures total { (a b : List ℕ) → (key_before a b ≡ true) ⊎ ((a ≡ b) ⊎ (key_before b a ≡ true)) }
     ensures irreflexive { (a : List ℕ) → key_before a a ≡ true → ⊥ }
-    ensures transitive { (a b c : List ℕ) → key_before a b ≡ true → key_before b c ≡ true → key_before a c ≡ true }
+    ensures transitive { (a b c : List ℕ) → key_before a b ≡ true → key_before b c ≡ true
+        → key_before a c ≡ true }
 {
     let _length = keys.len();
 }

@@ -69,10 +69,18 @@ fn find<V>(members: &[Member<V>], key: &str) -> Result<usize, usize>
 fn put<V>(members: &mut Vec<Member<V>>, key: String, value: V) -> Result<Option<V>, Member<V>>
     requires { rises (map key_of members.old.items) ≡ true }
     ensures rise { rises (map key_of members.new.items) ≡ true }
-    ensures old { IfOk result (λ old. old ≡ lookup (string_bytes key) (map pair_of members.old.items)) }
-    ensures new { OnOk result ((k : List ℕ) → lookup k (map pair_of members.new.items) ≡ (if bytes_eq k (string_bytes key) then Some value else lookup k (map pair_of members.old.items))) }
-    ensures len { IfOk result (λ old. length members.new.items ≡ length members.old.items + (if is_some old then 0 else 1)) }
-    ensures only_new { OnErr result (lookup (string_bytes key) (map pair_of members.old.items) ≡ None) }
+    ensures old { IfOk result
+        (λ old. old ≡ lookup (string_bytes key) (map pair_of members.old.items)) }
+    ensures new { OnOk result
+        ((k : List ℕ)
+        → lookup k (map pair_of members.new.items) ≡
+        (if bytes_eq k (string_bytes key) then Some value
+        else lookup k (map pair_of members.old.items))) }
+    ensures len { IfOk result
+        (λ old. length members.new.items ≡ length members.old.items +
+        (if is_some old then 0 else 1)) }
+    ensures only_new { OnErr result
+        (lookup (string_bytes key) (map pair_of members.old.items) ≡ None) }
     ensures handed_back { IfErr result (λ member. (member.key ≡ key) × (member.value ≡ value)) }
     ensures err { OnErr result (members.new.items ≡ members.old.items) }
 {
@@ -89,7 +97,9 @@ fn put<V>(members: &mut Vec<Member<V>>, key: String, value: V) -> Result<Option<
 fn replace_value<V>(members: &mut Vec<Member<V>>, place: usize, value: V) -> V
     requires { place < length members.old.items }
     ensures old { (d : Member V) → result ≡ (slice_index_or members.old.items place d).value }
-    ensures new { (d : Member V) → members.new.items ≡ slice_set members.old.items place (with_value (slice_index_or members.old.items place d) value) }
+    ensures new { (d : Member V)
+        → members.new.items ≡ slice_set members.old.items place
+        (with_value (slice_index_or members.old.items place d) value) }
 {
     std::mem::replace(&mut members[place].value, value)
 }
@@ -106,7 +116,8 @@ fn sort_by_key<V>(members: &mut Vec<Member<V>>) -> Result<(), AllocError>
 /// with a set of the keys so far, and takes memory for that set.
 fn refuse_repeated_keys<V>(alloc: Global, members: &[Member<V>]) -> Result<(), MapError>
     ensures distinct { IsOk result → AreDistinct (map key_of members.now) }
-    ensures repeated { (place : ℕ) → result ≡ Err (MapError.RepeatedKey place) → IsFirstRepeat (map key_of members.now) place }
+    ensures repeated { (place : ℕ) → result ≡ Err (MapError.RepeatedKey place)
+        → IsFirstRepeat (map key_of members.now) place }
 {
     let mut seen = BTreeSet::new(alloc);
     for place in 0..members.len() {
@@ -138,9 +149,11 @@ impl<V> KeyMap<V> {
     where
         V: Drop,
         ensures members { IfOk result (λ m. IsPermutation (map pair_of members.items) m) }
-        ensures same { IfOk result (λ m. (k : List ℕ) → lookup k m ≡ lookup k (map pair_of members.items)) }
+        ensures same { IfOk result
+            (λ m. (k : List ℕ) → lookup k m ≡ lookup k (map pair_of members.items)) }
         ensures distinct { IsOk result → AreDistinct (map key_of members.items) }
-        ensures repeated { (place : ℕ) → result ≡ Err (MapError.RepeatedKey place) → IsFirstRepeat (map key_of members.items) place }
+        ensures repeated { (place : ℕ) → result ≡ Err (MapError.RepeatedKey place)
+            → IsFirstRepeat (map key_of members.items) place }
     {
         let mut members = members;
         if let Err(error) = refuse_repeated_keys(alloc, &members) {
@@ -189,8 +202,12 @@ impl<V> KeyMap<V> {
     /// the error, and the map is as before. For many keys take `from_members`, which sorts once.
     pub fn insert(&mut self, key: String, value: V) -> Result<Option<V>, Member<V>>
         ensures old { IfOk result (λ old. old ≡ lookup (string_bytes key) self.old) }
-        ensures new { OnOk result ((k : List ℕ) → lookup k self.new ≡ (if bytes_eq k (string_bytes key) then Some value else lookup k self.old)) }
-        ensures len { IfOk result (λ old. length self.new ≡ length self.old + (if is_some old then 0 else 1)) }
+        ensures new { OnOk result
+            ((k : List ℕ)
+            → lookup k self.new ≡
+            (if bytes_eq k (string_bytes key) then Some value else lookup k self.old)) }
+        ensures len { IfOk result
+            (λ old. length self.new ≡ length self.old + (if is_some old then 0 else 1)) }
         ensures only_new { OnErr result (lookup (string_bytes key) self.old ≡ None) }
         ensures handed_back { IfErr result (λ member. (member.key ≡ key) × (member.value ≡ value)) }
         ensures err { OnErr result (self.new ≡ self.old) }

@@ -1,4 +1,4 @@
-use Rattle.std.proofs.Common.{refl, sym, arith}
+use Rattle.std.proofs.Common.{refl, sym}
 use Rattle.json_exact.proofs.FewLaws.{group_at, no_group}
 use Rattle.json_exact.proofs.decimal.group_or_zero.Goals as goal
 

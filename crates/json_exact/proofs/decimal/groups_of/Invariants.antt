@@ -1,7 +1,7 @@
 use Rattle.std.proofs.Common.{ℕ, ◌+◌, ◌/◌, ◌≤◌, ◌≡◌, length}
 use Rattle.json_exact.specs.Digits.{joined}
 use Rattle.json_exact.specs.Groups.{groups_of, AreGroups}
-use Rattle.json_exact.specs.SignificantGroups.{HoldsGroups}
+use Rattle.json_exact.specs.inner.SignificantGroups.{HoldsGroups}
 use Rattle.json_exact.proofs.GroupLaws.{after}
 use Rattle.json_exact.proofs.decimal.groups_of.Given as goal
 

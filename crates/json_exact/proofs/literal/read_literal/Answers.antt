@@ -1,9 +1,9 @@
 use Rattle.std.proofs.Common.{◌≡◌, ℕ, ◌+◌, ◌*◌, ◌^◌, Bool, List, ◌++◌, length, refl, sym, ap, subst, ◌∙◌, arith}
 use Rattle.std.specs.Prelude.{Option, Some, None, option_map, IfSome}
 use Rattle.json_exact.specs.Literal.{number}
-use Rattle.json_exact.specs.LiteralParts.{AreKept}
-use Rattle.json_exact.specs.Reading.{Parts, minus_of, whole_of, fraction_of, counted, exponent_of, capped_exponent, with_exponent, with_fraction, with_whole, literal_of}
-use Rattle.json_exact.specs.SignificantDigits.{Holds}
+use Rattle.json_exact.specs.inner.LiteralParts.{AreKept}
+use Rattle.json_exact.specs.inner.Reading.{Parts, minus_of, whole_of, fraction_of, counted, exponent_of, capped_exponent, with_exponent, with_fraction, with_whole, literal_of}
+use Rattle.json_exact.specs.inner.SignificantDigits.{Holds}
 use Rattle.json_exact.specs.declared.literal.Exponent.{Exponent}
 use Rattle.json_exact.specs.declared.literal.Literal.{Literal}
 use Rattle.json_exact.specs.declared.significant_digits.SignificantDigits.{SignificantDigits}
@@ -29,7 +29,14 @@ exponent_kept negative whole fraction None digits count e h f g = absurd cc
 exponent_kept negative whole fraction (Some (down, size)) digits count e h f g = (
   record { negative = negative; whole = whole; fraction = fraction; exponent = (down, size) },
   refl,
-  record { negative = refl; digits = h; fraction_digits = f; down = ap (λ (r : Bool × ℕ). r.0) (some_same g); size = ap (λ (r : Bool × ℕ). r.1) (some_same g) },
+  record {
+    negative = refl;
+    digits = h;
+    fraction_digits = f;
+    down = ap (λ (r : Bool × ℕ). r.0) (some_same g);
+    size =
+        ap (λ (r : Bool × ℕ). r.1) (some_same g);
+  },
 )
 
 fraction_kept : (negative : Bool) (whole : List ℕ) (o : Option (List ℕ × List ℕ)) (before digits : SignificantDigits) (count : ℕ) (rest : List ℕ)
@@ -45,7 +52,8 @@ fraction_kept negative whole (Some (fraction, behind)) before digits count rest 
     (subst (λ (x : ℕ). Holds digits x) (sym (number_append whole fraction)) (pushes (number whole) h)) (ap (λ (r : ℕ × List ℕ). r.0) (some_same f))
     (g ∙ ap (λ (xs : List ℕ). option_map capped_exponent (exponent_of xs)) same)
 
-whole_kept : (negative : Bool) (o : Option (List ℕ × List ℕ)) (first before digits : SignificantDigits) (rest behind : List ℕ) (count : ℕ) (e : Exponent) → Holds first 0 → Pushes first before o
+whole_kept : (negative : Bool) (o : Option (List ℕ × List ℕ)) (first before digits : SignificantDigits) (rest behind : List ℕ) (count : ℕ)
+    (e : Exponent) → Holds first 0 → Pushes first before o
     → Some rest ≡ option_map (λ r. r.1) o → Pushes before digits (fraction_of rest)
     → ◌≡◌ {A = Option (ℕ × List ℕ)} (Some (count, behind)) (option_map counted (fraction_of rest))
     → ◌≡◌ {A = Option (Bool × ℕ)} (Some (e.down, e.size)) (option_map capped_exponent (exponent_of behind))
@@ -67,10 +75,13 @@ literal_kept : (text : List ℕ) (negative : Bool) (start rest behind : List ℕ
     → Kept (literal_of text) (record { negative = negative; digits = digits; fraction_digits = count; exponent = e })
 unfolding literal_of
 literal_kept text negative start rest behind first before digits count e m h pushes s more f g =
-    subst (λ (r : Bool × List ℕ). Kept (with_whole r.0 (whole_of r.1)) (record { negative = negative; digits = digits; fraction_digits = count; exponent = e })) m
+    subst (λ (r : Bool × List ℕ). Kept (with_whole r.0 (whole_of r.1))
+    (record { negative = negative; digits = digits; fraction_digits = count; exponent = e })) m
     (whole_kept negative (whole_of start) first before digits rest behind count e h pushes s more f g)
 
 pub returns-clause-read : goal.returns-clause-read
 returns-clause-read c =
-    literal_kept c.args.bytes.now _ c.read_minus-negative.result.1.now c.in_ok-rest.rest.now c.in_ok-fraction_digits.rest.now c.new-digits.result c.push_whole.new.digits c.push_fraction.new.digits _ c.in_ok-exponent.exponent
-    c.read_minus-negative.ensures.read c.new-digits.ensures.holds c.push_whole.ensures.holds c.in_ok-rest.ensures.read c.push_fraction.ensures.holds c.in_ok-fraction_digits.ensures.read c.in_ok-exponent.ensures
+    literal_kept c.args.bytes.now _ c.read_minus-negative.result.1.now c.in_ok-rest.rest.now c.in_ok-fraction_digits.rest.now c.new-digits.result
+    c.push_whole.new.digits c.push_fraction.new.digits _ c.in_ok-exponent.exponent
+    c.read_minus-negative.ensures.read c.new-digits.ensures.holds c.push_whole.ensures.holds c.in_ok-rest.ensures.read c.push_fraction.ensures.holds
+    c.in_ok-fraction_digits.ensures.read c.in_ok-exponent.ensures

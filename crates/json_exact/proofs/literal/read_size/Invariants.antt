@@ -1,5 +1,5 @@
 use Rattle.std.proofs.Common.{ℕ, ◌-◌, ◌≡◌, map, length}
-use Rattle.json_exact.specs.Reading.{all_digits, capped}
+use Rattle.json_exact.specs.inner.Reading.{all_digits, capped}
 use Rattle.json_exact.proofs.GroupLaws.{after}
 use Rattle.json_exact.proofs.literal.read_size.Given as goal
 

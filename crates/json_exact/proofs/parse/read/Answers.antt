@@ -10,4 +10,5 @@ returns-in-Some-clause-read c =
     answer c.value.result c.args.text.now _ k.literal (c.value.ensures.value k.n k.size k.holds k.size_is)
 
 pub returns-in-None-clause-read : goal.returns-in-None-clause-read
-returns-in-None-clause-read c = subst (λ (t : List ℕ). IsNoLiteral t) c.as_bytes.ensures.value (none_read c.as_bytes.result.now c.in-None.ensures.read)
+returns-in-None-clause-read c =
+    subst (λ (t : List ℕ). IsNoLiteral t) c.as_bytes.ensures.value (none_read c.as_bytes.result.now c.in-None.ensures.read)

@@ -1,6 +1,6 @@
 use Rattle.std.proofs.Common.{arith, ℕ, subst, ◌*◌, ◌+◌}
-use Rattle.json_exact.specs.DecimalInverseLaws.{ten_pos}
-use Rattle.json_exact.specs.SignificantGroups.{HoldsGroups}
+use Rattle.json_exact.specs.inner.DecimalInverseLaws.{ten_pos}
+use Rattle.json_exact.specs.inner.SignificantGroups.{HoldsGroups}
 use Rattle.json_exact.proofs.RegroupLaws.{filling, one_digit, full_group, all_read}
 use Rattle.json_exact.proofs.regrouping.regrouped.Goals as goal
 use Rattle.json_exact.proofs.regrouping.regrouped.Goals.{then-filled-eq4, else-filled-eq4}
@@ -14,13 +14,18 @@ loop-index-init c = record {
 }
 
 pub overflow_mul-group : goal.overflow_mul-group
-overflow_mul-group c = let f = (filling c.loop-index.group c.loop-index.filled 0 c.loop-index.invariant.few c.loop-index.invariant.below (omega arith)).0 in omega arith
+overflow_mul-group c =
+    let f = (filling c.loop-index.group c.loop-index.filled 0 c.loop-index.invariant.few c.loop-index.invariant.below (omega arith)).0 in omega arith
 
 pub overflow_add-group : goal.overflow_add-group
-overflow_add-group c = let f = (filling c.loop-index.group c.loop-index.filled c.digit_or_zero.result c.loop-index.invariant.few c.loop-index.invariant.below c.digit_or_zero.ensures.below).0 in omega arith
+overflow_add-group c =
+    let f = (filling c.loop-index.group c.loop-index.filled c.digit_or_zero.result c.loop-index.invariant.few c.loop-index.invariant.below
+    c.digit_or_zero.ensures.below).0 in omega arith
 
 pub push-requires-clause-group : goal.push-requires-clause-group
-push-requires-clause-group c = (filling c.loop-index.group c.loop-index.filled c.digit_or_zero.result c.loop-index.invariant.few c.loop-index.invariant.below c.digit_or_zero.ensures.below).0
+push-requires-clause-group c =
+    (filling c.loop-index.group c.loop-index.filled c.digit_or_zero.result c.loop-index.invariant.few c.loop-index.invariant.below
+    c.digit_or_zero.ensures.below).0
 
 pub loop-index-preserved : goal.loop-index-preserved
 loop-index-preserved c =
@@ -32,7 +37,11 @@ loop-index-preserved c =
         few = omega arith;
         below = omega arith;
         whole = (k + 1, (let t = b.if-filled-eq4.true in omega arith), (let g = b.push.ensures.len in omega arith));
-        held = (n * 10000 + (c.loop-index.group * 10 + c.digit_or_zero.result), b.push.ensures.holds n h, full_group n _ _ _ c.args.digits.now c.loop-index.index b.if-filled-eq4.true e c.digit_or_zero.ensures.digit);
+        held = (
+          n * 10000 + (c.loop-index.group * 10 + c.digit_or_zero.result),
+          b.push.ensures.holds n h,
+          full_group n _ _ _ c.args.digits.now c.loop-index.index b.if-filled-eq4.true e c.digit_or_zero.ensures.digit,
+        );
       })
       | else-filled-eq4 b ↦ rw (b.groups-is, b.group-is, b.filled-is) (record {
         few = (let f = i.few in let t = b.if-filled-eq4.false in omega arith);

@@ -1,5 +1,5 @@
 use Rattle.std.proofs.Common.{ℕ, ◌+◌, ◌*◌, ◌^◌, ◌≤◌, ◌<◌, ◌≡◌}
-use Rattle.json_exact.specs.SignificantGroups.{HoldsGroups}
+use Rattle.json_exact.specs.inner.SignificantGroups.{HoldsGroups}
 use Rattle.json_exact.proofs.RegroupLaws.{read}
 use Rattle.json_exact.proofs.regrouping.regrouped.Given as goal
 

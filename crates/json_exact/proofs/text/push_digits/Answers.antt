@@ -7,6 +7,7 @@ loop-place-preserved c = record {
   within = (let h = c.loop-place-test.true in omega arith);
   so_far = one_more (nat_abs c.args.decimal.now) c.args.low c.loop-place.place c.digit_at.result (string_bytes c.loop-place.output)
       (string_bytes c.push.new.self) c.loop-place-test.true c.digit_at.ensures
-      (c.in_ok-push.ensures.bytes ∙ ap (λ xs. string_bytes c.loop-place.output ++ xs) (c.in_ok-push.ensures.ascii (let d = c.digit_at.ensures in omega arith)))
+      (c.in_ok-push.ensures.bytes
+      ∙ ap (λ xs. string_bytes c.loop-place.output ++ xs) (c.in_ok-push.ensures.ascii (let d = c.digit_at.ensures in omega arith)))
       ∙ c.loop-place.invariant.so_far;
 }

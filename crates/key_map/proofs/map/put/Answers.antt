@@ -25,7 +25,8 @@ returns-in-Ok-clause-rise g c =
 pub returns-in-Ok-clause-old : goal.returns-in-Ok-clause-old
 returns-in-Ok-clause-old g c =
     let d : Member g.row.V.Denot = record { key = c.args.key; value = c.args.value } in
-    ap (λ v. Some v) (c.replace_value.ensures.old d) ∙ sym (lookup_stands c.args.members.now.items (string_bytes c.args.key) c.in-Ok.place d c.requires (stands g c))
+    ap (λ v. Some v) (c.replace_value.ensures.old d)
+    ∙ sym (lookup_stands c.args.members.now.items (string_bytes c.args.key) c.in-Ok.place d c.requires (stands g c))
 
 pub returns-in-Ok-clause-new : goal.returns-in-Ok-clause-new
 returns-in-Ok-clause-new g c = λ k.

@@ -28,7 +28,8 @@ returns-in-Ok-false-clause-repeated g c = λ place e.
     let at = key_at ms c.loop-place.place c.index-members-place.result (omega arith) ∙ ap (λ z. Some z) (sym c.as_str.ensures.value) in
     let early = sym (c.loop-place.invariant.0 c.as_str.result) ∙ not_false _ (sym c.in-Ok-false.ensures.added ∙ c.in-Ok-false.field-0-test) in
     let same : c.loop-place.place ≡ place = cc in
-    subst (λ p. IsFirstRepeat (map key_of ms) p) same (repeats_early (map key_of ms) c.loop-place.place c.as_str.result.now at early, c.loop-place.invariant.1)
+    subst (λ p. IsFirstRepeat (map key_of ms) p) same
+    (repeats_early (map key_of ms) c.loop-place.place c.as_str.result.now at early, c.loop-place.invariant.1)
 
 pub loop-place-preserved : goal.loop-place-preserved
 loop-place-preserved g c =
@@ -40,7 +41,8 @@ loop-place-preserved g c =
           ∙ ap (λ b. cond b true (contains (λ x y. slice_cmp nat_cmp x.now y.now) c.loop-place.seen q)) (is_eq-slice_cmp key q.now)
           ∙ ap (λ b. cond (bytes_eq key q.now) true b) (c.loop-place.invariant.0 q)
           ∙ sym (early_more (map key_of ms) c.loop-place.place key q.now at),
-      below_more (λ p. RepeatsAt (map key_of ms) p → ⊥) c.loop-place.place c.loop-place.invariant.1 (new_apart (map key_of ms) c.loop-place.place key at apart),
+      below_more (λ p. RepeatsAt (map key_of ms) p → ⊥) c.loop-place.place c.loop-place.invariant.1
+          (new_apart (map key_of ms) c.loop-place.place key at apart),
     )
 
 pub returns-clause-distinct : goal.returns-clause-distinct

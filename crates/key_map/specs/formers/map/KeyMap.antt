@@ -60,7 +60,8 @@ module _ {X Y : Type 0} (h : X → Y) where
   same_keys (m ∷ ms) = ap (λ (l : List (List ℕ)). (pair_of m).0 ∷ l) (same_keys ms)
 
 abbrev member : Former {0}
-member = via (pair (const (String Global)) this) (λ X. Member X) (λ X m. (m.key, m.value)) (λ X v. record { key = v.0; value = v.1 }) (λ X m. refl) (λ X v. refl)
+member = via (pair (const (String Global)) this) (λ X. Member X) (λ X m. (m.key, m.value)) (λ X v. record { key = v.0; value = v.1 }) (λ X m. refl)
+    (λ X v. refl)
 
 abbrev fields : Former {0}
 fields = via (vec.the_former member Global) (λ X. Inside X) (λ X a. a.members) (λ X v. record { members = v }) (λ X a. refl) (λ X v. refl)
@@ -85,7 +86,8 @@ module _ (R S : RattleType) (h : R.Denot → S.Denot) where
 
   coded_over : Recodes R S h → (ps : List (List ℕ × R.Denot)) → (C.the_row S).coded.code (map (pair_over h) ps) ≡ (C.the_row R).coded.code ps
   coded_over e ps = sym
-      (code_map (coded× (coded_list coded_ℕ) R.coded).code (coded× (coded_list coded_ℕ) S.coded).code (pair_over h) (λ x i. gcons ((coded_list coded_ℕ).code x.0) (sym (e x.1) i)) ps)
+      (code_map (coded× (coded_list coded_ℕ) R.coded).code (coded× (coded_list coded_ℕ) S.coded).code (pair_over h)
+      (λ x i. gcons ((coded_list coded_ℕ).code x.0) (sym (e x.1) i)) ps)
 
   pub the_codes_placed : Recodes R S h → Recodes (C.the_row R) (C.the_row S) ((the_former this).map R.Denot S.Denot h)
   the_codes_placed e ps = coded_over e ps

@@ -22,7 +22,8 @@ from_significant-requires-clause-exact c =
       n * 10 ^ c.args.up,
       c.regrouped.ensures.holds,
       regrouped_narrow c.args.digits.digits _ n ((4 - count % 4) % 4) k,
-      regrouped_is c.args.digits.digits _ n c.args.up ((4 - count % 4) % 4) ((count + (4 - count % 4) % 4) / 4) k (omega arith) (padded count ((4 - count % 4) % 4) refl),
+      regrouped_is c.args.digits.digits _ n c.args.up ((4 - count % 4) % 4) ((count + (4 - count % 4) % 4) / 4) k (omega arith)
+          (padded count ((4 - count % 4) % 4) refl),
     )
 
 pub from_significant-requires-clause-low : goal.from_significant-requires-clause-low
@@ -38,4 +39,5 @@ returns-clause-value c = λ n h.
     let k = keeps_of _ _ _ n h c.requires.kept in
     let count = c.args.digits.len + c.args.up + 1 in
     c.from_significant.ensures.value (joined 10 c.args.digits.digits * 10 ^ (6 - (4 - count % 4) % 4)) (n * 10 ^ c.args.up) c.regrouped.ensures.holds
-    (regrouped_is c.args.digits.digits _ n c.args.up ((4 - count % 4) % 4) ((count + (4 - count % 4) % 4) / 4) k (omega arith) (padded count ((4 - count % 4) % 4) refl))
+    (regrouped_is c.args.digits.digits _ n c.args.up ((4 - count % 4) % 4) ((count + (4 - count % 4) % 4) / 4) k (omega arith)
+    (padded count ((4 - count % 4) % 4) refl))

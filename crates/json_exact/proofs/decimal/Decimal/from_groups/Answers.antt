@@ -19,7 +19,8 @@ from_significant-requires-clause-exact c = (
   c.requires.exact.0,
   c.few_groups-kept.ensures.holds,
   few_are_narrow c.args.groups.now c.requires.groups (search rules),
-  worth c.args.weight c.args.groups.now _ c.requires.exact.0 c.requires.groups (lifts _ c.args.weight (search rules) c.lifted.ensures) c.requires.exact.1,
+  worth c.args.weight c.args.groups.now _ c.requires.exact.0 c.requires.groups
+      (lifts _ c.args.weight (search rules) c.lifted.ensures) c.requires.exact.1,
 )
 
 pub returns-clause-value : goal.returns-clause-value

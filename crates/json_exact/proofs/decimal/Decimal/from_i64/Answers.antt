@@ -24,7 +24,8 @@ pub returns-clause-value : goal.returns-clause-value
 returns-clause-value c =
     let f : SFits w64 c.args.value = search rules in
     let e : to_z w64 (of_z w64 c.args.value) ≡ c.args.value = to_z-of_z w64 c.args.value f in
-    c.from_significant.ensures.value c.unsigned_abs.result (c.unsigned_abs.result * parts) c.of_number-groups.ensures.holds (all_up c.unsigned_abs.result)
+    c.from_significant.ensures.value c.unsigned_abs.result (c.unsigned_abs.result * parts) c.of_number-groups.ensures.holds
+    (all_up c.unsigned_abs.result)
     ∙ ap (λ (v : ℤ). signed (int_lt v (pos 0)) (c.unsigned_abs.result * parts)) e
     ∙ ap (λ (n : ℕ). signed (int_lt c.args.value (pos 0)) (n * parts)) (c.unsigned_abs.ensures.value ∙ ap nat_abs e)
     ∙ sym (times c.args.value parts)

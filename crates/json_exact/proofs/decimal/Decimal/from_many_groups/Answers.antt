@@ -13,7 +13,8 @@ returns-then-not-is_narrow-clause-value c = λ q e narrow.
     absurd cc
 
 pub from_significant-requires-clause-kept : goal.from_significant-requires-clause-kept
-from_significant-requires-clause-kept c = not_wide _ _ _ _ c.groups_of-kept.ensures.holds ((c.is_narrow.ensures _ c.groups_of-kept.ensures.holds).0 c.if-not-is_narrow.false)
+from_significant-requires-clause-kept c =
+    not_wide _ _ _ _ c.groups_of-kept.ensures.holds ((c.is_narrow.ensures _ c.groups_of-kept.ensures.holds).0 c.if-not-is_narrow.false)
 
 pub from_significant-requires-clause-exact : goal.from_significant-requires-clause-exact
 from_significant-requires-clause-exact c = (
@@ -21,7 +22,8 @@ from_significant-requires-clause-exact c = (
   c.requires.exact.0,
   c.groups_of-kept.ensures.holds,
   (c.is_narrow.ensures _ c.groups_of-kept.ensures.holds).0 c.if-not-is_narrow.false,
-  worth c.args.weight c.args.groups.now _ c.requires.exact.0 c.requires.groups (lifts _ c.args.weight (search rules) c.lifted.ensures) c.requires.exact.1,
+  worth c.args.weight c.args.groups.now _ c.requires.exact.0 c.requires.groups
+      (lifts _ c.args.weight (search rules) c.lifted.ensures) c.requires.exact.1,
 )
 
 pub from_significant-requires-clause-low : goal.from_significant-requires-clause-low

@@ -8,7 +8,8 @@ pub from_significant-requires-clause-kept : goal.from_significant-requires-claus
 from_significant-requires-clause-kept c = not_wide _ _ _ _ c.of_number-groups.ensures.holds (few_digits c.args.value (omega arith))
 
 pub from_significant-requires-clause-exact : goal.from_significant-requires-clause-exact
-from_significant-requires-clause-exact c = (c.args.value, c.args.value * parts, c.of_number-groups.ensures.holds, few_digits c.args.value (omega arith), all_up c.args.value)
+from_significant-requires-clause-exact c =
+    (c.args.value, c.args.value * parts, c.of_number-groups.ensures.holds, few_digits c.args.value (omega arith), all_up c.args.value)
 
 pub returns-clause-value : goal.returns-clause-value
 returns-clause-value c = c.from_significant.ensures.value c.args.value (c.args.value * parts) c.of_number-groups.ensures.holds (all_up c.args.value)

@@ -9,7 +9,8 @@ pub returns-in-Some : goal.returns-in-Some
 returns-in-Some c =
     let f : SFits w32 c.args.place = search rules in
     c.group_at.ensures.group
-    ∙ group_lifted c.args.place c.in-Some.lifted (nat_abs c.args.self.now) (subst (λ (p : ℤ). p +ℤ pos 4096 ≡ pos c.in-Some.lifted) (to_z-of_z w32 c.args.place f) c.in-Some.ensures)
+    ∙ group_lifted c.args.place c.in-Some.lifted (nat_abs c.args.self.now)
+    (subst (λ (p : ℤ). p +ℤ pos 4096 ≡ pos c.in-Some.lifted) (to_z-of_z w32 c.args.place f) c.in-Some.ensures)
 
 pub returns-in-None : goal.returns-in-None
 returns-in-None c =

@@ -7,7 +7,8 @@ use Rattle.json_exact.proofs.decimal.Decimal.is_integer.Goals as goal
 
 pub returns-clause-whole : goal.returns-clause-whole
 returns-clause-whole c =
-    let zeros : AreZeros (drop (c.self.inside.top - 4096) c.self.inside.groups) ↔ IsWhole (exactly c.args.self.now) = whole_digits c.self.inside _ c.self.invariant c.self.view_is in
+    let zeros : AreZeros (drop (c.self.inside.top - 4096) c.self.inside.groups) ↔ IsWhole (exactly c.args.self.now) =
+    whole_digits c.self.inside _ c.self.invariant c.self.view_is in
     let is : IsTrue c.ends_in_zeros.result ↔ AreZeros (drop (c.self.inside.top - 4096) c.self.inside.groups) =
     subst (λ (n : ℕ). IsTrue c.ends_in_zeros.result ↔ AreZeros (drop n c.self.inside.groups)) c.saturating_sub.ensures c.ends_in_zeros.ensures in
     (λ t. zeros.0 (is.0 t), λ w. is.1 (zeros.1 w))

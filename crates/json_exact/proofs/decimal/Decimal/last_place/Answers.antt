@@ -14,7 +14,8 @@ last_index-last-requires c = record { first = first_group_some c.self.inside c.s
 
 pub overflow_sub-self-inside-2 : goal.overflow_sub-self-inside-2
 overflow_sub-self-inside-2 c =
-    let w = last_within c.self.inside c.last_index-last.result c.self.invariant c.last_index-last.ensures.within c.last_index-last.ensures.some c.last_index-last.ensures.last in
+    let w = last_within c.self.inside c.last_index-last.result c.self.invariant c.last_index-last.ensures.within c.last_index-last.ensures.some
+    c.last_index-last.ensures.last in
     omega arith
 
 pub returns-clause-zero : goal.returns-clause-zero
@@ -24,4 +25,5 @@ pub returns-clause-least : goal.returns-clause-least
 returns-clause-least c = λ _.
     let f : SFits w32 c.place_of.result = search rules in
     subst (λ (w : ℤ). IsLeastPlace (nat_abs c.args.self.now) w) (sym (to_z-of_z w32 c.place_of.result f))
-    (least c.self.inside _ c.place_of.result c.last_index-last.result c.self.invariant c.self.view_is c.last_index-last.ensures.within c.last_index-last.ensures.some c.last_index-last.ensures.last c.place_of.ensures)
+    (least c.self.inside _ c.place_of.result c.last_index-last.result c.self.invariant c.self.view_is c.last_index-last.ensures.within
+    c.last_index-last.ensures.some c.last_index-last.ensures.last c.place_of.ensures)

@@ -26,7 +26,8 @@ pub number_of-before-requires-clause-few : goal.number_of-before-requires-clause
 number_of-before-requires-clause-few c =
     let l = c.last_index-last.ensures in
     let z = c.without_zeros-ending.ensures in
-    let m = made c.self.inside _ c.last_index-last.result c.without_zeros-ending.result.digits _ _ c.self.invariant c.self.view_is l.within l.some l.last z.digits z.scale z.round z.last in
+    let m = made c.self.inside _ c.last_index-last.result c.without_zeros-ending.result.digits _ _ c.self.invariant c.self.view_is l.within l.some
+    l.last z.digits z.scale z.round z.last in
     let b = before_small _ _ _ _ z.scale m.small in
     omega arith
 
@@ -34,7 +35,8 @@ pub overflow_mul-result : goal.overflow_mul-result
 overflow_mul-result c =
     let l = c.last_index-last.ensures in
     let z = c.without_zeros-ending.ensures in
-    let m = (made c.self.inside _ c.last_index-last.result c.without_zeros-ending.result.digits _ _ c.self.invariant c.self.view_is l.within l.some l.last z.digits z.scale z.round z.last).small in
+    let m = (made c.self.inside _ c.last_index-last.result c.without_zeros-ending.result.digits _ _ c.self.invariant c.self.view_is l.within l.some
+    l.last z.digits z.scale z.round z.last).small in
     let b = c.number_of-before.ensures in
     rw b (omega arith)
 
@@ -42,7 +44,8 @@ pub overflow_add-result : goal.overflow_add-result
 overflow_add-result c =
     let l = c.last_index-last.ensures in
     let z = c.without_zeros-ending.ensures in
-    let m = (made c.self.inside _ c.last_index-last.result c.without_zeros-ending.result.digits _ _ c.self.invariant c.self.view_is l.within l.some l.last z.digits z.scale z.round z.last).small in
+    let m = (made c.self.inside _ c.last_index-last.result c.without_zeros-ending.result.digits _ _ c.self.invariant c.self.view_is l.within l.some
+    l.last z.digits z.scale z.round z.last).small in
     let b = c.number_of-before.ensures in
     rw b (omega arith)
 
@@ -59,11 +62,14 @@ pub returns-clause-magnitude : goal.returns-clause-magnitude
 returns-clause-magnitude c =
     let l = c.last_index-last.ensures in
     let z = c.without_zeros-ending.ensures in
-    let m = made c.self.inside _ c.last_index-last.result c.without_zeros-ending.result.digits _ _ c.self.invariant c.self.view_is l.within l.some l.last z.digits z.scale z.round z.last in
+    let m = made c.self.inside _ c.last_index-last.result c.without_zeros-ending.result.digits _ _ c.self.invariant c.self.view_is l.within l.some
+    l.last z.digits z.scale z.round z.last in
     let f : SFits w32 c.exponent_of.result = search rules in
     subst (λ (w : ℤ). IsScaled (nat_abs c.args.self.now)
-    (c.number_of-before.result * c.without_zeros-ending.result.scale + c.without_zeros-ending.result.digits) w) (sym (to_z-of_z w32 c.exponent_of.result f))
-    (subst (λ (x : ℕ). IsScaled (nat_abs c.args.self.now) (x * c.without_zeros-ending.result.scale + c.without_zeros-ending.result.digits) c.exponent_of.result) (sym c.number_of-before.ensures)
+    (c.number_of-before.result * c.without_zeros-ending.result.scale + c.without_zeros-ending.result.digits) w)
+    (sym (to_z-of_z w32 c.exponent_of.result f))
+    (subst (λ (x : ℕ). IsScaled (nat_abs c.args.self.now)
+    (x * c.without_zeros-ending.result.scale + c.without_zeros-ending.result.digits) c.exponent_of.result) (sym c.number_of-before.ensures)
     (scaled_by _ _ _ _ c.exponent_of.result m.moved c.exponent_of.ensures))
 
 pub returns-clause-last : goal.returns-clause-last
@@ -71,7 +77,8 @@ returns-clause-last c = λ _.
     let l = c.last_index-last.ensures in
     let z = c.without_zeros-ending.ensures in
     subst (λ (x : ℕ). 0 < (x * c.without_zeros-ending.result.scale + c.without_zeros-ending.result.digits) % 10) (sym c.number_of-before.ensures)
-    (made c.self.inside _ c.last_index-last.result c.without_zeros-ending.result.digits _ _ c.self.invariant c.self.view_is l.within l.some l.last z.digits z.scale z.round z.last).last
+    (made c.self.inside _ c.last_index-last.result c.without_zeros-ending.result.digits _ _ c.self.invariant c.self.view_is l.within l.some l.last
+    z.digits z.scale z.round z.last).last
 
 pub returns-clause-zero : goal.returns-clause-zero
 returns-clause-zero c = λ z. absurd (not_zero c.self.inside _ c.self.invariant c.self.view_is c.if-self-eq0.false z)
@@ -81,4 +88,5 @@ returns-clause-narrow c =
     let l = c.last_index-last.ensures in
     let z = c.without_zeros-ending.ensures in
     subst (λ (x : ℕ). x * c.without_zeros-ending.result.scale + c.without_zeros-ending.result.digits < 10 ^ 38) (sym c.number_of-before.ensures)
-    (made c.self.inside _ c.last_index-last.result c.without_zeros-ending.result.digits _ _ c.self.invariant c.self.view_is l.within l.some l.last z.digits z.scale z.round z.last).small
+    (made c.self.inside _ c.last_index-last.result c.without_zeros-ending.result.digits _ _ c.self.invariant c.self.view_is l.within l.some l.last
+    z.digits z.scale z.round z.last).small

@@ -3,7 +3,11 @@ use Rattle.json_exact.proofs.MagnitudeLaws.{none_above, one_more, few_digits, wi
 use Rattle.json_exact.proofs.decimal.Decimal.whole_magnitude.Goals as goal
 
 pub returns-then-not-is_integer : goal.returns-then-not-is_integer
-returns-then-not-is_integer c = λ n lt. (λ e. absurd cc, λ e. absurd (let t = c.is_integer.ensures.whole.1 (whole_multiple c.args.self.now n e) in let f = c.if-not-is_integer.true in cc))
+returns-then-not-is_integer c =
+    λ n lt. (
+      λ e. absurd cc,
+      λ e. absurd (let t = c.is_integer.ensures.whole.1 (whole_multiple c.args.self.now n e) in let f = c.if-not-is_integer.true in cc),
+    )
 
 pub returns-then-high : goal.returns-then-high
 returns-then-high c = λ n lt. (
@@ -36,7 +40,9 @@ overflow_add-magnitude c =
 pub loop-place-preserved : goal.loop-place-preserved
 loop-place-preserved c = record {
   within = (let t = c.loop-place-test.true in omega arith);
-  so_far = one_more (nat_abs c.args.self.now) c.loop-place.place c.loop-place.magnitude c.digit_at.result c.loop-place-test.true c.loop-place.invariant.so_far c.digit_at.ensures;
+  so_far = one_more
+      (nat_abs c.args.self.now) c.loop-place.place c.loop-place.magnitude c.digit_at.result c.loop-place-test.true c.loop-place.invariant.so_far
+      c.digit_at.ensures;
 }
 
 pub returns : goal.returns

@@ -9,4 +9,5 @@ returns c =
     written_in_turn _ _ _ _ _ _ _ c.in_ok-output.ensures.bytes c.in_ok-push_sign.ensures c.in_ok-push_whole.ensures
     (subst (λ (k : ℕ). string_bytes c.push_fraction.new.output ≡ string_bytes c.push_whole.new.output ++ fraction_text k
     (nat_abs c.decimal-decimal.result / 10 ^ (16383 - k))) places c.in_ok-push_fraction.ensures)
-    ∙ sym (text_in_parts c.decimal-decimal.result c.args.self.now c.decimal-decimal.ensures (subst (λ (k : ℕ). k ≤ 16383) places c.fraction_digits-places.ensures.few))
+    ∙ sym (text_in_parts c.decimal-decimal.result c.args.self.now c.decimal-decimal.ensures
+    (subst (λ (k : ℕ). k ≤ 16383) places c.fraction_digits-places.ensures.few))

@@ -4,7 +4,9 @@ use Rattle.json_exact.proofs.NumberLaws.{apart, compared}
 use Rattle.json_exact.proofs.number.NumberPartialEq.eq.Goals as goal
 
 pub returns-then-self-other : goal.returns-then-self-other
-returns-then-self-other c = compared c.self.inside c.other.inside _ _ c.eq.result c.self.invariant c.self.view_is c.other.invariant c.other.view_is c.if-self-other.true c.eq.ensures
+returns-then-self-other c =
+    compared c.self.inside c.other.inside _ _ c.eq.result c.self.invariant c.self.view_is c.other.invariant c.other.view_is c.if-self-other.true
+    c.eq.ensures
 
 pub returns-else-self-other : goal.returns-else-self-other
 returns-else-self-other c =

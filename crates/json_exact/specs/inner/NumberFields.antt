@@ -6,7 +6,8 @@ use Rattle.json_exact.specs.declared.number.Number.TheInside.{Inside}
 
 -- the record that contracts see
 unfoldable pub written_with : Inside → Written
-written_with n = record { digits = signed (int_lt n.decimal (pos 0)) (nat_abs n.decimal / 10 ^ (16383 - n.fraction_digits)); places = n.fraction_digits }
+written_with n =
+    record { digits = signed (int_lt n.decimal (pos 0)) (nat_abs n.decimal / 10 ^ (16383 - n.fraction_digits)); places = n.fraction_digits }
 
 -- so many fraction digits write the decimal exactly
 pub record IsWrittenWith (n : Inside) : Type 0 where

@@ -6,9 +6,9 @@ use Rattle.std.proofs.Math.Nat.{pow-suc, mul-div_cancel}
 use Rattle.std.proofs.lemmas.Bool.{le-ltb}
 use Rattle.json_exact.specs.Exact.{signed}
 use Rattle.json_exact.specs.Digits.{spread, count_of}
-use Rattle.json_exact.specs.LeadingDigits.{Keeps}
-use Rattle.json_exact.specs.LeadingDigitsLaws.{power_pos, from_len, len_is, digits_are}
-use Rattle.json_exact.specs.DecimalFields.{size_of, parts_of, IsFields}
+use Rattle.json_exact.specs.inner.LeadingDigits.{Keeps}
+use Rattle.json_exact.specs.inner.LeadingDigitsLaws.{power_pos, from_len, len_is, digits_are}
+use Rattle.json_exact.specs.inner.DecimalFields.{size_of, parts_of, IsFields}
 use Rattle.json_exact.specs.declared.decimal.Decimal.TheInside.{Inside}
 
 unfoldable pub fields_of : ℤ → Inside
@@ -43,7 +43,9 @@ same m n gs hs t u e f g = cc
 
 pub size_is : (gs : List ℕ) (top q : ℕ) → Keeps 10000 10 gs top (q * 10) → size_of gs top ≡ q
 unfolding size_of
-size_is gs top q h = ap (λ (x : ℕ). x / 10000 ^ 11 / 10) (sym h.size) ∙ ap (λ (x : ℕ). x / 10) (mul-div_cancel (q * 10) (power_pos 10000 11 (omega arith))) ∙ mul-div_cancel q (omega arith)
+size_is gs top q h =
+    ap (λ (x : ℕ). x / 10000 ^ 11 / 10) (sym h.size) ∙ ap (λ (x : ℕ). x / 10) (mul-div_cancel (q * 10) (power_pos 10000 11 (omega arith)))
+    ∙ mul-div_cancel q (omega arith)
 
 -- where there are groups, the number is not 0
 pub some_parts : (gs : List ℕ) (top q : ℕ) → Keeps 10000 10 gs top (q * 10) → 0 < top → 0 < q
@@ -65,4 +67,5 @@ back m gs top q h s =
 pub fields_of-parts_of : (a : Inside) → IsFields a → fields_of (parts_of a) ≡ a
 unfolding parts_of make
 fields_of-parts_of a h =
-    ap (λ (x : ℕ). fields_of (signed a.negative x)) (size_is a.groups a.top h.worth.0 h.worth.1) ∙ back a.negative a.groups a.top h.worth.0 h.worth.1 h.sign
+    ap (λ (x : ℕ). fields_of (signed a.negative x)) (size_is a.groups a.top h.worth.0 h.worth.1)
+    ∙ back a.negative a.groups a.top h.worth.0 h.worth.1 h.sign

@@ -4,8 +4,8 @@ use Rattle.json_model.specs.Decimal.{Decimal as Written, IsNarrow}
 use Rattle.json_exact.specs.Exact.{IsWorth}
 use Rattle.json_exact.specs.Literal.{number}
 use Rattle.json_exact.specs.Parsed.{IsInRange, IsNoLiteral, IsTooWide, IsOutOfRange}
-use Rattle.json_exact.specs.Reading.{Parts, capped}
-use Rattle.json_exact.specs.SignificantDigits.{Holds}
+use Rattle.json_exact.specs.inner.Reading.{Parts, capped}
+use Rattle.json_exact.specs.inner.SignificantDigits.{Holds}
 use Rattle.json_exact.specs.declared.literal.Literal.{Literal}
 use Rattle.json_exact.specs.declared.number_error.NumberError.{NumberError}
 use Rattle.json_exact.specs.declared.number_error.NumberError.TheVariants.{NotANumber, TooWide, OutOfRange}

@@ -1,7 +1,7 @@
 -- What the digits of a number leave behind that are pushed one after another, in any base. This project's own.
 use Rattle.std.specs.Prelude.{◌≡◌, ℕ, ◌<◌, ◌≤◌, Bool, true, false, List, slice_index}
 use Rattle.json_model.specs.Decimal.{HasNarrowDigits}
-use Rattle.json_exact.specs.LeadingDigits.{Keeps}
+use Rattle.json_exact.specs.inner.LeadingDigits.{Keeps}
 use Rattle.json_exact.specs.declared.significant_digits.SignificantDigits.{SignificantDigits}
 
 -- the slots that no digit was pushed to are 0

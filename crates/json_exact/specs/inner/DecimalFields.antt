@@ -5,7 +5,7 @@ use Rattle.std.specs.Prelude.{◌≡◌, ℕ, ◌*◌, ◌/◌, ◌^◌, ◌<◌
 use Rattle.json_model.specs.Decimal.{HasNarrowDigits}
 use Rattle.json_exact.specs.Exact.{signed}
 use Rattle.json_exact.specs.Digits.{joined}
-use Rattle.json_exact.specs.LeadingDigits.{Keeps}
+use Rattle.json_exact.specs.inner.LeadingDigits.{Keeps}
 use Rattle.json_exact.specs.declared.decimal.Decimal.TheInside.{Inside}
 
 -- the magnitude, in parts

@@ -6,7 +6,7 @@ use Rattle.std.proofs.lemmas.Nat.{div-mul-add, mod-mul-add, div-add-mod', le-div
 use Rattle.std.proofs.lemmas.Bool.{ne_eqb, cases_order}
 use native.Mathlib.Numerals.{unary_clauses}
 use Rattle.json_exact.specs.Digits.{joined, AllBelow, spread, count_in, count_of}
-use Rattle.json_exact.specs.LeadingDigits.{Keeps}
+use Rattle.json_exact.specs.inner.LeadingDigits.{Keeps}
 
 pub power_pos : (b k : ℕ) → 0 < b → 0 < b ^ k
 power_pos b zero h = let e : b ^ 0 ≡ 1 = simp unary_clauses in omega arith
@@ -37,7 +37,8 @@ spread_joined b (d ∷ ds) h =
     rw (div-mul-add d (b ^ length ds) (joined b ds) lt, mod-mul-add d (b ^ length ds) (joined b ds) lt, spread_joined b ds h.1) refl
 
 pub count_step : (b fuel n : ℕ) → 0 < n → count_in b (suc fuel) n ≡ suc (count_in b fuel (n / b))
-count_step b fuel n p = ap (λ (t : Bool). elim t as (λ _. ℕ) [ true ↦ 0 | false ↦ suc (count_in b fuel (n / b)) ]) (ne_eqb n 0 (λ e. absurd (omega arith)))
+count_step b fuel n p =
+    ap (λ (t : Bool). elim t as (λ _. ℕ) [ true ↦ 0 | false ↦ suc (count_in b fuel (n / b)) ]) (ne_eqb n 0 (λ e. absurd (omega arith)))
 
 pub count_zero : (b fuel : ℕ) → count_in b fuel 0 ≡ 0
 count_zero b zero = refl
@@ -96,7 +97,8 @@ module _ (b more : ℕ) (two : 1 < b) where
     | inl z ↦ absurd (let t = z.0 in omega arith)
     | inr z ↦
         let a : b ^ more * b ^ suc under ≤ joined b ds * b ^ suc under = mul-le-mul_right (b ^ suc under) (z.1) in
-        let e : b ^ under * b ^ suc more ≡ b ^ more * b ^ suc under = shuffled (b ^ under) (b ^ more) b (b ^ suc more) (b ^ suc under) (pow-suc b more) (pow-suc b under) in
+        let e : b ^ under * b ^ suc more ≡ b ^ more * b ^ suc under =
+        shuffled (b ^ under) (b ^ more) b (b ^ suc more) (b ^ suc under) (pow-suc b more) (pow-suc b under) in
         let s = h.size in
         le_of (b ^ under) n (b ^ suc more) (power_pos b (suc more) (omega arith)) (omega arith)
   ]

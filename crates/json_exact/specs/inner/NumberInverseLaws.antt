@@ -7,8 +7,8 @@ use Rattle.std.proofs.Math.IntN.{negsuc-*ℤ-pos}
 use Rattle.std.proofs.lemmas.Bool.{le-ltb}
 use Rattle.json_model.specs.Decimal.{Decimal as Written}
 use Rattle.json_exact.specs.Exact.{signed}
-use Rattle.json_exact.specs.NumberFields.{written_with, IsWrittenWith}
-use Rattle.json_exact.specs.DecimalInverseLaws.{ten_pos}
+use Rattle.json_exact.specs.inner.NumberFields.{written_with, IsWrittenWith}
+use Rattle.json_exact.specs.inner.DecimalInverseLaws.{ten_pos}
 use Rattle.json_exact.specs.declared.number.Number.TheInside.{Inside}
 
 unfoldable pub number_fields : Written → Inside

@@ -3,6 +3,7 @@ use Rattle.std.proofs.Common.{◌≡◌, ℕ, ◌<◌, Bool, true, false, ◌&&�
 use Rattle.std.specs.Prelude.{nat_lt, ◌==◌}
 use Rattle.std.proofs.lemmas.Bool.Decides.{nat_tests}
 
+-- what is true of both is true of the first, of the second, and of each
 pub and_left : (a b : Bool) → a && b ≡ true → a ≡ true
 and_left true b e = refl
 and_left false b e = cc
@@ -14,6 +15,7 @@ and_right false b e = cc
 pub both : (a b : Bool) → a && b ≡ true → (a ≡ true) × (b ≡ true)
 both a b e = (and_left a b e, and_right a b e)
 
+-- what a test of numbers says
 pub is_below : (i n : ℕ) → nat_lt i n ≡ true → i < n
 is_below i n e = grind (arith, nat_tests)
 

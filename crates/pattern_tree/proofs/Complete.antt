@@ -1,5 +1,5 @@
 -- The machine reads the tokens of a tree back.
-use Rattle.std.proofs.Common.{◌≡◌, Bool, true, false, ◌&&◌, List, [], ◌∷◌, ◌++◌, Option, Some, None, refl, ap, sym, ◌∙◌, append_assoc, append-nil}
+use Rattle.std.proofs.Common.{◌≡◌, true, ◌&&◌, List, [], ◌∷◌, ◌++◌, Option, Some, None, refl, ap, sym, ◌∙◌, append_assoc, append-nil}
 use Rattle.pattern_model.specs.Tree.{Tree, empty, leaf, group, repeat, sequence, either, Token, tokens_of, Level, fits}
 use Rattle.pattern_tree.specs.Machine.{Frame, Outer, fresh, joined, push, whole, barred, can_repeat, run, begin, with_here, tree_of_tokens, alternative_of}
 use Rattle.pattern_model.proofs.BoolLaws.{and_left, and_right}

@@ -1,8 +1,7 @@
 -- Modifiers, read one character after the other.
-use Rattle.std.proofs.Common.{◌≡◌, ℕ, Bool, true, false, not, ◌&&◌, [], ◌∷◌, Option, Some, None, option_and_then, refl, ap, sym, ◌∙◌, arith}
+use Rattle.std.proofs.Common.{◌≡◌, ℕ, Bool, true, false, not, ◌&&◌, [], ◌∷◌, Option, Some, None, option_and_then, refl, ap, sym, ◌∙◌}
 use Rattle.std.specs.Prelude.{if◌then◌else◌, ◌==◌, ◌||◌}
 use Rattle.std.specs.List.{list_all, list_any}
-use Rattle.std.proofs.lemmas.Bool.Decides.{nat_tests}
 use Rattle.std.proofs.Math.Bool.{and-true}
 use Rattle.pattern_model.specs.Text.{Text, with_front}
 use Rattle.pattern_model.specs.Groups.{to_colon, is_modifier, has, is_once, are_modifiers, flags}
@@ -93,6 +92,7 @@ four_false a b c d = ap (λ z. a && z) (three_false b c d) ∙ and_false a
 five_false : (a b c d e : Bool) → a && (b && (c && (d && (e && false)))) ≡ false
 five_false a b c d e = ap (λ z. a && z) (four_false b c d e) ∙ and_false a
 
+-- at the colon it is known whether a letter stood before
 at_colon : (i m s h : Bool) (x : Text) → (if i || (m || s) then Some x else None) ≡ tested (go_on i m s h) (Some ([], x))
 at_colon true true true true x = refl
 at_colon true true true false x = refl
@@ -199,10 +199,11 @@ from_is i m s h [] = refl
 from_is i m s h (c ∷ x) =
     step i m s h c x (c == 58) (c == 45) (c == 105) (c == 109) (c == 115) (λ a b d e. from_is a b d e x) refl refl refl refl
 
--- where nothing stood before
+-- the test where nothing stood before
 at_first : (x : Text) → go_on false false false false x ≡ are_modifiers x
 at_first x = simp and-true
 
+-- reading one character after the other gives what the whole says
 pub flags_are : (x : Text) → flags_from false false false false x ≡ flags x
 unfolding flags
 flags_are x = from_is false false false false x ∙ tested_same (go_on false false false false) are_modifiers (to_colon x) at_first

@@ -1,5 +1,5 @@
 -- What the shape of a node tells of its tree.
-use Rattle.std.proofs.Common.{◌≡◌, ℕ, ◌<◌, List, length, get_or, sym, ap, ◌∙◌, subst, refl, arith, Bool, true, false, ◌&&◌}
+use Rattle.std.proofs.Common.{◌≡◌, ℕ, ◌<◌, List, length, get_or, sym, ap, ◌∙◌, subst, refl, arith, Bool, true}
 use Rattle.std.specs.Prelude.{nat_lt, slice_index_or}
 use Rattle.std.proofs.lemmas.List.{get_or_default}
 use Rattle.pattern_tree.specs.declared.node.Node.{Node}
@@ -68,6 +68,7 @@ module _ (p : Pattern) (id : NodeId) (here : HasNode p id) (us : List Tree) (sam
       )
 
 module _ (wide : Bool) (x : Text) (p : Pattern) (id : NodeId) where
+  -- what stands by itself is one token
   leaf_stands : (l : Single) → node_tree p id ≡ Tree.leaf (leaf_of l) → node_items p id ≡ single_places l →
       TokenStands wide x (node_span p id).start (Token.leaf (leaf_of l)) (node_span p id).end →
       ItemsFit x l (node_span p id).start (node_span p id).end → FormStands wide x p id (shape_form (shapes.Single l))
@@ -79,20 +80,23 @@ module _ (wide : Bool) (x : Text) (p : Pattern) (id : NodeId) where
   leaf_stands singles.NotBoundary e g t i = (Leaf.not_boundary, e, t)
   leaf_stands (singles.Escape c) e g t i = (_, e, t)
   leaf_stands (singles.Class b items) e g t (last, h, k) =
-      (_, t, (last, subst (λ z. ItemsStand x (inside b (node_span p id).start) z last) (sym g) h, k))
+      (_, e, t, (last, subst (λ z. ItemsStand x (inside b (node_span p id).start) z last) (sym g) h, k))
   leaf_stands (singles.Property b) e g t i = (Leaf.property b, e, t)
   leaf_stands (singles.BackNumber n) e g t i = (Leaf.back_number n, e, t)
   leaf_stands (singles.BackName s) e g t i = (_, e, t)
 
+module _ (p : Pattern) (id : NodeId) (us : List Tree) (same : (i : ℕ) → i < id.0 → tree_at us i ≡ tree_at (trees_of p.nodes.items) i) where
   -- the places of a node's parts are as its form says, where those of its shape are right
-  shape_stands : (us : List Tree) (shape : Shape) → node_tree p id ≡ built us shape → node_items p id ≡ shape_places shape →
-      FitsShape wide x p.nodes.items shape (node_span p id) → FormStands wide x p id (shape_form shape)
-  shape_stands us shapes.Empty e g h = h
-  shape_stands us (shapes.Single l) e g (t, i) = leaf_stands l e g t i
-  shape_stands us (shapes.Group m i) e g (o, c) = ((mark_of m, o, refl), c)
-  shape_stands us (shapes.Repeat i c) e g h = h
-  shape_stands us (shapes.Sequence i j) e g h = h
-  shape_stands us (shapes.Either i j) e g h = h
+  shape_stands : (wide : Bool) (x : Text) (shape : Shape) → parts_below id.0 shape ≡ true → node_tree p id ≡ built us shape →
+      node_items p id ≡ shape_places shape → FitsShape wide x p.nodes.items shape (node_span p id) →
+      FormStands wide x p id (shape_form shape)
+  shape_stands wide x shapes.Empty b e g h = h
+  shape_stands wide x (shapes.Single l) b e g (t, i) = leaf_stands wide x p id l e g t i
+  shape_stands wide x (shapes.Group m i) b e g (o, c) =
+      ((mark_of m, e ∙ ap (Tree.group (mark_of m)) (same i (is_below i id.0 b)), o, refl), c)
+  shape_stands wide x (shapes.Repeat i c) b e g h = h
+  shape_stands wide x (shapes.Sequence i j) b e g h = h
+  shape_stands wide x (shapes.Either i j) b e g h = h
 
 -- the node that is read where its place is known to be there
 abbrev no_node : Node
@@ -101,26 +105,31 @@ no_node = record { shape = shapes.Empty; span = record { start = 0; end = 0 } }
 same_node : (ns : List Node) (i : ℕ) (n : Node) → i < length ns → n ≡ get_or ns i n → slice_index_or ns i no_node ≡ n
 same_node ns i n h e = get_or_default ns i no_node n h ∙ sym e
 
+-- the places of a class in memory are those of its node
 pub items_at : (p : Pattern) (id : NodeId) (n : Node) → HasNode p id → n ≡ get_or p.nodes.items id.0 n →
     shape_places n.shape ≡ node_items p id
 items_at p id n h e = ap (λ z. shape_places z.shape) (sym (same_node p.nodes.items id.0 n h e))
 
+-- the trees before a node are those of the whole
+before_node : (p : Pattern) (id : NodeId) (us : List Tree) → length us ≡ id.0 → Adds us (trees_of p.nodes.items) → (i : ℕ) → i < id.0 →
+    tree_at us i ≡ tree_at (trees_of p.nodes.items) i
+before_node p id us l a i lt = sym (tree_at_adds us (trees_of p.nodes.items) i a (omega arith))
+
+-- a node stands where its form says
 pub form_stands : (p : Pattern) (id : NodeId) (n : Node) → HasNode p id → n ≡ get_or p.nodes.items id.0 n →
     (wide : Bool) (x : Text) (bytes : ℕ) → SpansStand wide x p bytes → FormStands wide x p id (shape_form n.shape)
 form_stands p id n h e wide x bytes s =
     let (us, l, a, k) = shape_at p.nodes.items id.0 n h in
     let is = same_node p.nodes.items id.0 n h e in
-    shape_stands wide x p id us n.shape (k ∙ ap (λ z. built us z.shape) (sym e)) (ap (λ z. shape_places z.shape) is)
+    shape_stands p id us (before_node p id us l a) wide x n.shape
+    (subst (λ z. parts_below id.0 z.shape ≡ true) (sym e) (parts_at p.nodes.items id.0 n p.after_parts h))
+    (k ∙ ap (λ z. built us z.shape) (sym e)) (ap (λ z. shape_places z.shape) is)
     (subst (λ z. FitsShape wide x p.nodes.items z.shape (node_span p id)) is (s.nodes id.0 no_node h))
 
 -- the form of a node is that of its shape
 pub form_at : (p : Pattern) (id : NodeId) (n : Node) → HasNode p id → n ≡ get_or p.nodes.items id.0 n → IsForm p id (shape_form n.shape)
 form_at p id n h e =
     let (us, l, a, k) = shape_at p.nodes.items id.0 n h in
-    is_form p id h us (λ i lt. same us l a i lt) n.shape
+    is_form p id h us (before_node p id us l a) n.shape
     (subst (λ z. parts_below id.0 z.shape ≡ true) (sym e) (parts_at p.nodes.items id.0 n p.after_parts h))
     (k ∙ ap (λ z. built us z.shape) (sym e))
-  where
-    same : (us : List Tree) → length us ≡ id.0 → Adds us (trees_of p.nodes.items) → (i : ℕ) → i < id.0 →
-        tree_at us i ≡ tree_at (trees_of p.nodes.items) i
-    same us l a i lt = sym (tree_at_adds us (trees_of p.nodes.items) i a (omega arith))

@@ -1,5 +1,5 @@
 -- Where the items of a class stand, as they are read.
-use Rattle.std.proofs.Common.{◌≡◌, ℕ, ◌+◌, ◌-◌, ◌≤◌, Bool, true, false, ◌&&◌, List, [], ◌∷◌, ◌++◌, drop, length, Option, Some, None, Ok, Err, IfOk, IfSome, Bor, refl, ap, ◌∙◌, subst, arith, append_assoc}
+use Rattle.std.proofs.Common.{◌≡◌, ℕ, ◌+◌, ◌-◌, ◌≤◌, Bool, true, false, List, [], ◌∷◌, ◌++◌, drop, length, Option, Some, None, Ok, Err, IfOk, IfSome, Bor, refl, ap, ◌∙◌, subst, arith, append_assoc}
 use Rattle.std.specs.Str.{chars}
 use lib.Utf8.{encodes}
 use denote.Text.{Utf8}

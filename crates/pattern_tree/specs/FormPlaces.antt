@@ -18,10 +18,12 @@ use Rattle.pattern_tree.specs.Spans.{inside}
 abbrev pub FormStands : Bool → Text → Pattern → NodeId → Form → Type 0
 FormStands wide x p id forms.Empty = (node_span p id).start ≡ (node_span p id).end
 FormStands wide x p id (forms.Class b) =
-    (items : List Item) × TokenStands wide x (node_span p id).start (Token.leaf (Leaf.class b items)) (node_span p id).end
+    (items : List Item) × (node_tree p id ≡ Tree.leaf (Leaf.class b items))
+    × TokenStands wide x (node_span p id).start (Token.leaf (Leaf.class b items)) (node_span p id).end
     × ((last : ℕ) × ItemsStand x (inside b (node_span p id).start) (node_items p id) last × ((node_span p id).end ≡ last + 1))
 FormStands wide x p id (forms.Group k i) =
-    ((m : Mark) × TokenStands wide x (node_span p id).start (Token.opens m) (node_span p i).start × (k ≡ kind_of m))
+    ((m : Mark) × (node_tree p id ≡ Tree.group m (node_tree p i))
+    × TokenStands wide x (node_span p id).start (Token.opens m) (node_span p i).start × (k ≡ kind_of m))
     × TokenStands wide x (node_span p i).end Token.closes (node_span p id).end
 FormStands wide x p id (forms.Repeat i least most lazy) =
     ((node_span p id).start ≡ (node_span p i).start) × TokenStands wide x (node_span p i).end (Token.times (record {

@@ -1,12 +1,16 @@
--- What is decided: it holds, or it does not. Of lists and options of what is decided, of byte lists, of the seven types and
--- of decimals.
-use Rattle.std.proofs.Common.{◌≡◌, ◌⊎◌, inl, inr, ℕ, ◌*◌, ◌/◌, ◌^◌, ◌<◌, List, [], ◌∷◌, length, Bool, true, false, Option, Some, None, refl, sym, ap, ◌∙◌, arith, ℤ, pos, nat_abs}
-use Rattle.std.specs.Prelude.{◌↔◌, ◌*ℤ◌, IsTrue, IsSome, IfSome, IsSomeAnd, bytes_eq, int_lt, is_some}
-use Rattle.std.specs.Int.Signed.{clash_ℤ}
+-- What is decided: it holds, or it does not. Of lists and options of what is decided, of numbers, of byte lists, of the seven
+-- types and of decimals.
+use Rattle.std.proofs.Common.{◌≡◌, ◌⊎◌, inl, inr, ℕ, ◌*◌, ◌/◌, ◌^◌, ◌<◌, List, [], ◌∷◌, length, Bool, true, false, Option, Some, None, refl, sym, ap, subst, ◌∙◌, arith, ℤ, pos, nat_abs}
+use Rattle.std.specs.Prelude.{◌↔◌, ◌*ℤ◌, ◌<ℤ◌, IsTrue, IsSome, IfSome, IsSomeAnd, bytes_eq, int_lt, is_some}
+use Rattle.std.specs.Cmp.{int_ranks}
+use Rattle.std.specs.Int.Signed.{<ℤ_irrefl, clash_ℤ}
 use Rattle.std.specs.List.{AllByRecursion}
+use Rattle.std.specs.Ordering.{MatchOrdering, int_cmp}
+use Rattle.std.specs.declared.cmp.Ordering.{Ordering}
+use Rattle.std.specs.declared.cmp.Ordering.TheVariants.{Less, Equal, Greater}
 use Rattle.std.proofs.Math.Nat.{mul-div_cancel}
 use Rattle.std.proofs.lemmas.Bool.{false≢true}
-use Rattle.std.proofs.lemmas.Bool.Decides.{eqb_tells}
+use Rattle.std.proofs.lemmas.Bool.Decides.{eqb_tells, leb_tells}
 use Rattle.std.proofs.lemmas.Int.{by_lt_z}
 use Rattle.std.proofs.lemmas.Slice.Eq.{bytes_eq-Decides}
 use Rattle.json_exact.proofs.SignLaws.{abs_times}
@@ -64,6 +68,28 @@ decided_some o = decided_true (is_some o)
 pub decided_filled : {A : Type 0} (xs : List A) → Decided (0 < length xs)
 decided_filled [] = inr (λ h. omega (arith, h))
 decided_filled (x ∷ xs) = inl (omega arith)
+
+-- ---- numbers
+
+pub decided_less : (a b : ℕ) → Decided (a < b)
+decided_less a b = elim (leb_tells b a) [ inl within ↦ inr (λ lt. let le = within.1 in omega arith) | inr past ↦ inl past.1 ]
+
+pub same_integers : (x y : ℤ) → Decided (x ≡ y)
+same_integers x y = go (int_cmp x y) (int_ranks x y)
+  where
+    go : (o : Ordering) → MatchOrdering o (x <ℤ y) (x ≡ y) (y <ℤ x) → Decided (x ≡ y)
+    go Less l = inr (λ e. <ℤ_irrefl (subst (λ (z : ℤ). x <ℤ z) (sym e) l))
+    go Equal e = inl e
+    go Greater g = inr (λ e. <ℤ_irrefl (subst (λ (z : ℤ). y <ℤ z) e g))
+
+pub same_counts : (a b : ℕ) → Decided (a ≡ b)
+same_counts a b = elim (eqb_tells a b) [ inl hit ↦ inl hit.1 | inr miss ↦ inr miss.1 ]
+
+pub same_truths : (a b : Bool) → Decided (a ≡ b)
+same_truths true true = inl refl
+same_truths true false = inr (λ e. cc)
+same_truths false true = inr (λ e. cc)
+same_truths false false = inl refl
 
 -- ---- byte lists
 

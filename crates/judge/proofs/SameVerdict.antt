@@ -10,17 +10,17 @@ use Rattle.json_exact.proofs.WrittenOrderLaws.{down, up}
 use Rattle.json_exact.specs.DecimalInverseLaws.{ten_pos}
 use Rattle.json_model.specs.Decimal.{Decimal, IsBelow, IsSameValue, IsWhole}
 use Rattle.json_model.specs.Parts.{as_number, as_string, elements_of, lookup, pairs_in, pairs_of, points, trees_in}
-use Rattle.json_model.specs.Rising.{KeysRise}
+use Rattle.json_model.specs.Rising.{KeysRise, KeysRiseInElements, KeysRiseInMembers}
 use Rattle.json_model.specs.Same.{Same, SameElements, SameMembers}
 use Rattle.json_model.specs.Tree.{null, boolean, number, string, Tree, scalar, array, object, Elements, no_elements, element, Members, no_members, member}
-use Rattle.json_semantics.proofs.EquivalenceLaws.{same_turned, same_value_chain}
+use Rattle.json_semantics.proofs.EquivalenceLaws.{same_chain, same_turned, same_value_chain}
 use Rattle.json_traits.specs.Allowed.{IsInteger, IsOfType}
 use Rattle.json_traits.specs.Kinds.{type_of}
 use Rattle.json_traits.specs.declared.types.json_type.JsonType.{JsonType}
 use Rattle.judge.specs.Names.{keyword_of}
-use Rattle.judge.specs.Verdict.{Holds, HoldsAt, IsKeyOf, IsUpTo, Reaches, Verdict, count_of}
+use Rattle.judge.specs.Verdict.{Holds, HoldsAt, IsKeyOf, IsOneOf, IsUpTo, Reaches, Verdict, count_of}
 use Rattle.judge.specs.declared.keyword.Keyword.{Keyword}
-use Rattle.judge.specs.declared.keyword.Keyword.TheVariants.{«Type», Bound, Least, Greatest, Required}
+use Rattle.judge.specs.declared.keyword.Keyword.TheVariants.{«Type», Enum, Const, Bound, Least, Greatest, Required}
 use Rattle.judge.specs.declared.keyword.Measure.{Measure}
 use Rattle.judge.specs.declared.keyword.Measure.TheVariants as counted_as
 use Rattle.json_semantics.specs.Bounds.{Keeps}
@@ -192,19 +192,61 @@ keeps_on Gt m x y s h = above_on m x y s h
 keeps_on Gte m x y s (inl h) = inl (above_on m x y s h)
 keeps_on Gte m x y s (inr h) = inr (sym (same_on m x y s (sym h)))
 
--- a keyword that d meets, e meets
-holds_on : (w : Keyword) (v d e : Tree) → Same d e → Holds w v d → Holds w v e
-holds_on «Type» v d e s h = (h.0, h.1, type_on d e h.0 s h.2)
-holds_on (Bound op) v d e s h = bound_on (λ m x. Keeps op x m) (keeps_on op) v d e s h
-holds_on (Least measure) v d e s h = limit_on Reaches v (count_of measure d) (count_of measure e) (one_count measure d e s) h
-holds_on (Greatest measure) v d e s h = limit_on IsUpTo v (count_of measure d) (count_of measure e) (one_count measure d e s) h
-holds_on Required v d e s h = required_on v d e s h
+-- ---- values
 
--- what d meets, e meets, in whatever order their members stand
-verdict_on : (ps : List (List ℕ × Tree)) (d e : Tree) → Same d e → AllByRecursion (HoldsAt d) ps → AllByRecursion (HoldsAt e) ps
-verdict_on [] d e s h = tt
-verdict_on (p ∷ ps) d e s h = (IfSome_then (keyword_of p.0) h.0 (λ w g. holds_on w p.1 d e s g), verdict_on ps d e s h.1)
+-- the keys in each element rise, where they rise in the array
+in_elements : (ts : Elements) → KeysRiseInElements ts → AllByRecursion KeysRise (trees_in ts)
+in_elements no_elements h = tt
+in_elements (element t ts) h = (h.0, in_elements ts h.1)
+
+elements_rise : (v : Tree) → KeysRise v → AllByRecursion KeysRise (elements_of v)
+elements_rise (scalar x) h = tt
+elements_rise (array ts) h = in_elements ts h
+elements_rise (object ms) h = tt
+
+abbrev ValueRises : List ℕ × Tree → Type 0
+ValueRises p = KeysRise p.1
+
+-- and in each member's value, where they rise in the object
+in_members : (ms : Members) → KeysRiseInMembers ms → AllByRecursion ValueRises (pairs_in ms)
+in_members no_members h = tt
+in_members (member k t ms) h = (h.0, in_members ms h.1)
+
+members_rise : (k : Tree) → KeysRise k → AllByRecursion ValueRises (pairs_of k)
+members_rise (scalar x) h = tt
+members_rise (array ts) h = tt
+members_rise (object ms) h = in_members ms h.1
+
+-- ---- two equal trees
+
+module _ (d e : Tree) (f : KeysRise d) (g : KeysRise e) (s : Same d e) where
+  -- what d is equal to, e is equal to
+  equal_on : (v : Tree) → KeysRise v → Same d v → Same e v
+  equal_on v r h = same_chain e d v g f r (same_turned d e f g s) h
+
+  one_of_on : (vs : List Tree) → AllByRecursion KeysRise vs → IsOneOf d vs → IsOneOf e vs
+  one_of_on [] r h = h
+  one_of_on (v ∷ vs) r (inl h) = inl (equal_on v r.0 h)
+  one_of_on (v ∷ vs) r (inr h) = inr (one_of_on vs r.1 h)
+
+  -- a keyword that d meets, e meets
+  holds_on : (w : Keyword) (v : Tree) → KeysRise v → Holds w v d → Holds w v e
+  holds_on «Type» v r h = (h.0, h.1, type_on d e h.0 s h.2)
+  holds_on Enum v r h = one_of_on (elements_of v) (elements_rise v r) h
+  holds_on Const v r h = equal_on v r h
+  holds_on (Bound op) v r h = bound_on (λ m x. Keeps op x m) (keeps_on op) v d e s h
+  holds_on (Least measure) v r h = limit_on Reaches v (count_of measure d) (count_of measure e) (one_count measure d e s) h
+  holds_on (Greatest measure) v r h = limit_on IsUpTo v (count_of measure d) (count_of measure e) (one_count measure d e s) h
+  holds_on Required v r h = required_on v d e s h
+
+  -- what d meets, e meets, in whatever order their members stand
+  verdict_on : (ps : List (List ℕ × Tree)) → AllByRecursion ValueRises ps → AllByRecursion (HoldsAt d) ps → AllByRecursion (HoldsAt e) ps
+  verdict_on [] r h = tt
+  verdict_on (p ∷ ps) r h = (IfSome_then (keyword_of p.0) h.0 (λ w k. holds_on w p.1 r.0 k), verdict_on ps r.1 h.1)
 
 -- the other way needs keys that rise: {"a": 1, "a": 1} is the same as {"a": 1, "b": 1} and has no b
-pub same_verdict : (k d e : Tree) → KeysRise d → KeysRise e → Same d e → Verdict k d ↔ Verdict k e
-same_verdict k d e f g s = (verdict_on (pairs_of k) d e s, verdict_on (pairs_of k) e d (same_turned d e f g s))
+pub same_verdict : (k d e : Tree) → KeysRise k → KeysRise d → KeysRise e → Same d e → Verdict k d ↔ Verdict k e
+same_verdict k d e r f g s = (
+  verdict_on d e f g s (pairs_of k) (members_rise k r),
+  verdict_on e d g f (same_turned d e f g s) (pairs_of k) (members_rise k r),
+)

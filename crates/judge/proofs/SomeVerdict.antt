@@ -15,10 +15,11 @@ use Rattle.json_traits.specs.Numbers.{decimal_in, whole}
 use Rattle.json_traits.specs.declared.types.json_type.JsonType.{JsonType}
 use Rattle.json_traits.specs.declared.types.json_type.JsonType.TheVariants.{Integer}
 use Rattle.judge.specs.Names.{keyword_of}
-use Rattle.judge.specs.Verdict.{Holds, HoldsAt, IsAmong, IsKeyOf, IsNamed, IsUpTo, Reaches, Verdict, count_of}
+use Rattle.judge.specs.Verdict.{Holds, HoldsAt, IsAmong, IsKeyOf, IsNamed, IsOneOf, IsUpTo, Reaches, Verdict, count_of}
 use Rattle.judge.specs.declared.keyword.Keyword.{Keyword}
-use Rattle.judge.specs.declared.keyword.Keyword.TheVariants.{«Type», Bound, Least, Greatest, Required}
+use Rattle.judge.specs.declared.keyword.Keyword.TheVariants.{«Type», Enum, Const, Bound, Least, Greatest, Required}
 use Rattle.judge.proofs.BoundLaws.{at_most}
+use Rattle.judge.proofs.DecidedSame.{decided_same}
 use Rattle.judge.proofs.Decided.{Decided, decided_all, decided_below, decided_both, decided_either, decided_if, decided_not, decided_some, decided_true, decided_type, decided_whole, same_texts, same_type, truth_of}
 
 -- ---- types
@@ -65,6 +66,12 @@ decided_up_to m n = decided_not (decided_below m (whole (pos n)))
 decided_key : (ps : List (List ℕ × Tree)) (v : Tree) → Decided (IsKeyOf ps v)
 decided_key ps v = decided_if (λ s. IsSome (lookup s ps)) (λ s. decided_some (lookup s ps)) (as_string v)
 
+-- ---- values
+
+decided_one_of : (d : Tree) (vs : List Tree) → Decided (IsOneOf d vs)
+decided_one_of d [] = inr (λ h. h)
+decided_one_of d (v ∷ vs) = decided_either (decided_same d v) (decided_one_of d vs)
+
 -- ---- each keyword
 
 -- how a number stands to a limit
@@ -83,6 +90,8 @@ decided_keeps Gte m x = decided_at_most m x
 
 decided_holds : (w : Keyword) (v d : Tree) → Decided (Holds w v d)
 decided_holds «Type» v d = decided_types v d
+decided_holds Enum v d = decided_one_of d (elements_of v)
+decided_holds Const v d = decided_same d v
 decided_holds (Bound op) v d = decided_bound (λ m x. Keeps op x m) (decided_keeps op) v d
 decided_holds (Least measure) v d = decided_limit Reaches decided_reaches v (count_of measure d)
 decided_holds (Greatest measure) v d = decided_limit IsUpTo decided_up_to v (count_of measure d)

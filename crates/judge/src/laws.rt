@@ -52,7 +52,7 @@ pub fn some_answer_on_values(keywords: &Value, document: &Value)
 }
 
 /// Documents that are equal by JSON equality have one verdict under each keyword object, whatever holds the three: 1 is
-/// 1.0. It passes over each document once, by recursion as deep as it nests, and takes no memory.
+/// 1.0. It passes over each of the three once, by recursion as deep as it nests, and takes no memory.
 pub fn equal_documents_have_one_verdict<'a, K: Node<'a>, M: Node<'a>, N: Node<'a>>(
     keywords: &K,
     left: &M,
@@ -62,7 +62,7 @@ pub fn equal_documents_have_one_verdict<'a, K: Node<'a>, M: Node<'a>, N: Node<'a
         → Verdict (K.tree keywords.now) (M.tree left.now)
         ↔ Verdict (K.tree keywords.now) (N.tree right.now) }
 {
-    let _keywords = keywords;
+    keys_rise(keywords);
     keys_rise(left);
     keys_rise(right);
 }

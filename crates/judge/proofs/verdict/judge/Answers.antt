@@ -25,17 +25,17 @@ returns-in-Ok-check-clause-right c =
 
 pub returns-in-Err-compile-clause-free : goal.returns-in-Err-compile-clause-free
 returns-in-Err-compile-clause-free c =
-    λ t u stands le _ _. keyword_refused_with_memory c.args.keywords.now c.args.document.now c.in-Ok.root
+    λ t u stands le lean _ _. keyword_refused_with_memory c.args.keywords.now c.args.document.now c.in-Ok.root
     (node_tree c.in-Ok.root) c.in-Ok.ensures.read c.in-Err-compile.error c.of_keyword.result c.of_keyword.ensures
-    c.in-Err-compile.ensures.free t stands le
+    c.in-Err-compile.ensures.free t stands le lean
 
 pub returns-in-Err-compile-clause-refused : goal.returns-in-Err-compile-clause-refused
 returns-in-Err-compile-clause-refused c =
-    λ t stands le _. keyword_refused_with_memory c.args.keywords.now c.args.document.now c.in-Ok.root
+    λ t stands le lean _. keyword_refused_with_memory c.args.keywords.now c.args.document.now c.in-Ok.root
     (node_tree c.in-Ok.root) c.in-Ok.ensures.read c.in-Err-compile.error c.of_keyword.result c.of_keyword.ensures
-    c.in-Err-compile.ensures.free t stands le
+    c.in-Err-compile.ensures.free t stands le lean
 
 pub returns-in-Err-root-clause-refused : goal.returns-in-Err-root-clause-refused
 returns-in-Err-root-clause-refused c =
-    λ t stands le never _. not_refused c.args.keywords.now c.args.document.now c.in-Ok.root
+    λ t stands le lean never _. not_refused c.args.keywords.now c.args.document.now c.in-Ok.root
     (node_tree c.in-Ok.root) c.in-Ok.ensures.read c.in-Ok-compile.checks c.in-Ok-compile.ensures.right t stands never

@@ -1,5 +1,11 @@
-use Rattle.judge.proofs.Adding.{adds_bound, adds_least, adds_greatest}
+use Rattle.judge.proofs.Adding.{adds_bound, adds_greatest, adds_least, adds_listed}
 use Rattle.judge.proofs.checks.Checks.add.Goals as goal
+
+pub returns-in_ok-read_listed-in-Enum-clause-ok : goal.returns-in_ok-read_listed-in-Enum-clause-ok
+returns-in_ok-read_listed-in-Enum-clause-ok g c =
+    let is = c.in_ok-read_listed-in-Enum.ensures in
+    let free = rw c.in-Enum.is at c.requires in
+    rw c.in-Enum.is (adds_listed c.args.self.now (g.N.HasTree.tree c.args.value.now) c.in_ok-read_listed-in-Enum.field-0 free is.0 is.1)
 
 pub returns-in_ok-read_bound-in-Bound-clause-ok : goal.returns-in_ok-read_bound-in-Bound-clause-ok
 returns-in_ok-read_bound-in-Bound-clause-ok g c =

@@ -2,7 +2,7 @@ use Rattle.std.proofs.Common.{inr, refl, ap, ◌∙◌, length, length-append, a
 use Rattle.json_model.proofs.KindLaws.{if_object_is, object_some}
 use Rattle.json_model.specs.Parts.{pairs_of}
 use Rattle.json_traits.proofs.GivesLaws.{left_item, left_end}
-use Rattle.judge.proofs.Compiling.{starts, free_now, goes_on, stops, stops_at_names, stops_with_memory, ends}
+use Rattle.judge.proofs.Compiling.{starts, free_now, goes_on, stops, stops_at_copied, stops_with_memory, ends}
 use Rattle.judge.proofs.checks.Checks.compile.Goals as goal
 
 pub loop-name-init : goal.loop-name-init
@@ -34,12 +34,12 @@ returns-in-Err-clause-right g c =
     stops t c.loop-name.checks k (c.in-Some-2.name.now, g.N.HasTree.tree c.in-Some-2.value) r.0 c.loop-name.invariant.walked
     c.loop-name.member c.in-Err.error c.loop-name.invariant.place c.in-Err.ensures.err
 
-pub returns-in-Err-clause-names : goal.returns-in-Err-clause-names
-returns-in-Err-clause-names g c =
+pub returns-in-Err-clause-memory : goal.returns-in-Err-clause-memory
+returns-in-Err-clause-memory g c =
     let t = g.N.HasTree.tree c.args.root.now in
     let k = length c.loop-name.yielded in
     let r = left_item {j = c.next.new.self} (pairs_of t) k c.loop-name.invariant.left c.in-Some-2.ensures.steps in
-    stops_at_names t c.loop-name.checks k (c.in-Some-2.name.now, g.N.HasTree.tree c.in-Some-2.value) r.0
+    stops_at_copied t c.loop-name.checks k (c.in-Some-2.name.now, g.N.HasTree.tree c.in-Some-2.value) r.0
     c.loop-name.invariant.walked c.loop-name.member c.in-Err.error c.in-Err.ensures.err
 
 pub returns-in-Err-clause-free : goal.returns-in-Err-clause-free

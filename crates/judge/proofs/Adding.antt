@@ -8,7 +8,7 @@ use Rattle.json_semantics.specs.Bounds.{Keeps}
 use Rattle.json_semantics.specs.declared.numeric_check.BoundOp.{BoundOp}
 use Rattle.json_semantics.specs.declared.numeric_check.CompiledBound.{CompiledBound}
 use Rattle.judge.proofs.NameLists.{if_both}
-use Rattle.judge.specs.Passes.{Adds, HasRoom, IsBoundOf, IsFree, IsLimitOf, IsWithin, KeepsAll, Meets, Passes, bound_at, limits_at}
+use Rattle.judge.specs.inner.Passes.{Adds, HasRoom, IsBoundOf, IsFree, IsLimitOf, IsWithin, KeepsAll, Meets, Passes, bound_at, limits_at}
 use Rattle.judge.specs.Validity.{HasForm, IsCount}
 use Rattle.judge.specs.Verdict.{Holds, IsUpTo, Reaches, count_of}
 use Rattle.judge.specs.declared.bounds.Bounds.{Bounds}
@@ -120,7 +120,8 @@ module _ (old : Checks) (v : Tree) where
       where
         holds : (d : Tree) → IfSome (count_of measure d) (Meets limit) ↔ Holds (Least measure) v d
         holds d = asked (as_number v) (IfSome (count_of measure d) (Meets limit)) (λ m. IfSome (count_of measure d) (Reaches m))
-            (there_and (as_number v) (λ m. IsCount m × IsLimitOf limit m) (λ m. IfSome (count_of measure d) (Meets limit) ↔ IfSome (count_of measure d) (Reaches m))
+            (there_and (as_number v) (λ m. IsCount m × IsLimitOf limit m)
+            (λ m. IfSome (count_of measure d) (Meets limit) ↔ IfSome (count_of measure d) (Reaches m))
             (λ m h. if_both (count_of measure d) (Meets limit) (Reaches m) (λ n. (h.1 n).0)) is)
 
     -- a greatest count that was set
@@ -134,5 +135,6 @@ module _ (old : Checks) (v : Tree) where
       where
         holds : (d : Tree) → IfSome (count_of measure d) (HasRoom limit) ↔ Holds (Greatest measure) v d
         holds d = asked (as_number v) (IfSome (count_of measure d) (HasRoom limit)) (λ m. IfSome (count_of measure d) (IsUpTo m))
-            (there_and (as_number v) (λ m. IsCount m × IsLimitOf limit m) (λ m. IfSome (count_of measure d) (HasRoom limit) ↔ IfSome (count_of measure d) (IsUpTo m))
+            (there_and (as_number v) (λ m. IsCount m × IsLimitOf limit m)
+            (λ m. IfSome (count_of measure d) (HasRoom limit) ↔ IfSome (count_of measure d) (IsUpTo m))
             (λ m h. if_both (count_of measure d) (HasRoom limit) (IsUpTo m) (λ n. (h.1 n).1)) is)

@@ -10,7 +10,8 @@ use Rattle.json_model.specs.Parts.{pairs_of, pairs_in, as_array, as_object}
 use Rattle.json_model.specs.Keys.{key_before, rises}
 use Rattle.json_traits.proofs.GivesLaws.{AtItem}
 use Rattle.judge.specs.Names.{keyword_of}
-use Rattle.judge.specs.Passes.{Passes, IsFree, Adds, Took, AddFault, IsFault, IsCompiled, HasThisFault}
+use Rattle.judge.specs.Compiled.{IsFault, IsCompiled, HasThisFault}
+use Rattle.judge.specs.inner.Passes.{Passes, IsFree, Adds, Took, AddFault}
 use Rattle.judge.specs.Validity.{IsFair, IsFirst, IsUnknown, IsUnbuilt, IsBad, ListsNames}
 use Rattle.judge.specs.Verdict.{Holds, HoldsAt}
 use Rattle.judge.specs.declared.checks.Checks.{Checks}
@@ -42,10 +43,12 @@ at_place P (x ∷ xs) zero p h e = let s : x ≡ p = cc in subst (λ (q : Pair).
 at_place P (x ∷ xs) (suc k) p h e = at_place P xs k p h.1 e
 
 -- no key before place k has the keyword of the key there
-new_key : (ps : List Pair) (k : ℕ) (p : Pair) (w : Keyword) → rises (map (λ (q : Pair). q.0) ps) ≡ true → AtItem ps k p → keyword_of p.0 ≡ Some w → AllByRecursion (λ (q : Pair). keyword_of q.0 ≡ Some w → ⊥) (take k ps)
+new_key : (ps : List Pair) (k : ℕ) (p : Pair) (w : Keyword) → rises (map (λ (q : Pair). q.0) ps) ≡ true → AtItem ps k p
+    → keyword_of p.0 ≡ Some w → AllByRecursion (λ (q : Pair). keyword_of q.0 ≡ Some w → ⊥) (take k ps)
 new_key ps k p w h at e = go ps k h at.here
   where
-    go : (ps : List Pair) (k : ℕ) → rises (map (λ (q : Pair). q.0) ps) ≡ true → slice_get ps k ≡ Some p → AllByRecursion (λ (q : Pair). keyword_of q.0 ≡ Some w → ⊥) (take k ps)
+    go : (ps : List Pair) (k : ℕ) → rises (map (λ (q : Pair). q.0) ps) ≡ true → slice_get ps k ≡ Some p
+        → AllByRecursion (λ (q : Pair). keyword_of q.0 ≡ Some w → ⊥) (take k ps)
     go [] zero h is = tt
     go [] (suc k) h is = tt
     go (x ∷ xs) zero h is = tt
@@ -100,7 +103,8 @@ pub record Walked (t : Tree) (checks : Checks) (k : ℕ) : Type 0 where
   pub passes : (d : Tree) → Passes checks d ↔ AllByRecursion (HoldsAt d) (take k (pairs_of t))
   pub free : (w : Keyword) → AllByRecursion (λ (q : Pair). keyword_of q.0 ≡ Some w → ⊥) (take k (pairs_of t)) → IsFree w checks
 
-pub starts : (t : Tree) (checks : Checks) → IsSome (as_object t) → rises (map (λ (q : Pair). q.0) (pairs_of t)) ≡ true → ((d : Tree) → Passes checks d) → ((w : Keyword) → IsFree w checks) → Walked t checks 0
+pub starts : (t : Tree) (checks : Checks) → IsSome (as_object t) → rises (map (λ (q : Pair). q.0) (pairs_of t)) ≡ true
+    → ((d : Tree) → Passes checks d) → ((w : Keyword) → IsFree w checks) → Walked t checks 0
 starts t checks is_object rise passes free = record {
   object = is_object;
   rise = rise;
@@ -122,7 +126,8 @@ module _ (t : Tree) (checks : Checks) (k : ℕ) (p : Pair) (at : AtItem (pairs_o
       λ h. (let q = (took.passes d).0 h in all_snoc (HoldsAt d) (take k (pairs_of t)) p ((s.passes d).0 q.0) q.1),
       λ h. (let q = all_front (HoldsAt d) (take k (pairs_of t)) p h in (took.passes d).1 ((s.passes d).1 q.0, q.1)),
     );
-    free = λ w. rw at.front (λ h. let q = all_front (λ (q : Pair). keyword_of q.0 ≡ Some w → ⊥) (take k (pairs_of t)) p h in took.frees w q.1 (s.free w q.0));
+    free = λ w. rw at.front (λ h. let q = all_front (λ (q : Pair). keyword_of q.0 ≡ Some w → ⊥) (take k (pairs_of t)) p h in
+        took.frees w q.1 (s.free w q.0));
   }
 
   first_here : (P : Pair → Type 0) → P p → IsFirst t k P
@@ -136,7 +141,8 @@ module _ (t : Tree) (checks : Checks) (k : ℕ) (p : Pair) (at : AtItem (pairs_o
   stops m OutOfMemory is f = inl refl
 
   -- memory is wanting only where names are listed, and no member before has a fault
-  pub stops_at_names : (m : ℕ) (e : KeywordError) → IsFault m p e → ◌≡◌ {A = Result Checks KeywordError} (Err e) (Err OutOfMemory) → (i : ℕ) × IsFirst t i ListsNames
+  pub stops_at_names : (m : ℕ) (e : KeywordError) → IsFault m p e
+      → ◌≡◌ {A = Result Checks KeywordError} (Err e) (Err OutOfMemory) → (i : ℕ) × IsFirst t i ListsNames
   stops_at_names m NotAnObject f h = absurd cc
   stops_at_names m (UnknownKeyword n) f h = absurd cc
   stops_at_names m (BadKeyword n) f h = absurd cc

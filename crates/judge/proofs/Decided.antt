@@ -93,7 +93,8 @@ same_type t u = go (same t u) refl
     go false e = inr (λ i. false≢true (sym e ∙ sym (ap (same t) i) ∙ same_refl t))
 
 module _ (P : JsonType → Type 0) where
-  none_of : (P Null → ⊥) → (P Boolean → ⊥) → (P Integer → ⊥) → (P Number → ⊥) → (P String → ⊥) → (P Array → ⊥) → (P Object → ⊥) → (t : JsonType) → P t → ⊥
+  none_of : (P Null → ⊥) → (P Boolean → ⊥) → (P Integer → ⊥) → (P Number → ⊥) → (P String → ⊥) → (P Array → ⊥) → (P Object → ⊥)
+      → (t : JsonType) → P t → ⊥
   none_of a b c d e f g Null h = a h
   none_of a b c d e f g Boolean h = b h
   none_of a b c d e f g Integer h = c h
@@ -103,7 +104,8 @@ module _ (P : JsonType → Type 0) where
   none_of a b c d e f g Object h = g h
 
   -- some type is P, or none is
-  by_seven : Decided (P Null) → Decided (P Boolean) → Decided (P Integer) → Decided (P Number) → Decided (P String) → Decided (P Array) → Decided (P Object) → Decided ((t : JsonType) × P t)
+  by_seven : Decided (P Null) → Decided (P Boolean) → Decided (P Integer) → Decided (P Number) → Decided (P String)
+      → Decided (P Array) → Decided (P Object) → Decided ((t : JsonType) × P t)
   by_seven (inl p) b c d e f g = inl (Null, p)
   by_seven (inr a) (inl p) c d e f g = inl (Boolean, p)
   by_seven (inr a) (inr b) (inl p) d e f g = inl (Integer, p)
@@ -129,6 +131,9 @@ quotient_is d k p some e =
 
 pub decided_whole : (a : Decimal) → Decided (IsWhole a)
 decided_whole a = elim (eqb_tells (nat_abs a.digits) (nat_abs a.digits / 10 ^ a.places * 10 ^ a.places)) [
-  | inl hit ↦ inl (signed (int_lt a.digits (pos 0)) (nat_abs a.digits / 10 ^ a.places), sym (divided_times a.digits (nat_abs a.digits / 10 ^ a.places) (10 ^ a.places) (ten_pos a.places) hit.1))
+  | inl hit ↦ inl (
+    signed (int_lt a.digits (pos 0)) (nat_abs a.digits / 10 ^ a.places),
+    sym (divided_times a.digits (nat_abs a.digits / 10 ^ a.places) (10 ^ a.places) (ten_pos a.places) hit.1),
+  )
   | inr miss ↦ inr (λ h. miss.1 (quotient_is a.digits h.0 (10 ^ a.places) (ten_pos a.places) h.1))
 ]

@@ -129,9 +129,11 @@ one_fault t (Some keyword.NotAnObject) (Some keyword.Unbuilt) h k = absurd (no_o
 one_fault t (Some keyword.NotAnObject) (Some keyword.OutOfMemory) h k = absurd k
 one_fault t (Some (keyword.UnknownKeyword m)) None h k = absurd (not_valid t m IsUnknown unknown h k)
 one_fault t (Some (keyword.UnknownKeyword m)) (Some keyword.NotAnObject) h k = absurd (no_object t k h.object)
-one_fault t (Some (keyword.UnknownKeyword m)) (Some (keyword.UnknownKeyword n)) h k = unknown_at (same_place t m n IsUnknown IsUnknown unknown unknown h k)
+one_fault t (Some (keyword.UnknownKeyword m)) (Some (keyword.UnknownKeyword n)) h k =
+    unknown_at (same_place t m n IsUnknown IsUnknown unknown unknown h k)
 one_fault t (Some (keyword.UnknownKeyword m)) (Some (keyword.BadKeyword n)) h k = absurd (same_pair t m n IsUnknown IsBad unknown bad unknown_bad h k)
-one_fault t (Some (keyword.UnknownKeyword m)) (Some keyword.Unbuilt) h k = absurd (same_pair t m k.0 IsUnknown IsUnbuilt unknown unbuilt unknown_unbuilt h k.1)
+one_fault t (Some (keyword.UnknownKeyword m)) (Some keyword.Unbuilt) h k =
+    absurd (same_pair t m k.0 IsUnknown IsUnbuilt unknown unbuilt unknown_unbuilt h k.1)
 one_fault t (Some (keyword.UnknownKeyword m)) (Some keyword.OutOfMemory) h k = absurd k
 one_fault t (Some (keyword.BadKeyword m)) None h k = absurd (not_valid t m IsBad bad h k)
 one_fault t (Some (keyword.BadKeyword m)) (Some keyword.NotAnObject) h k = absurd (no_object t k h.object)
@@ -141,7 +143,8 @@ one_fault t (Some (keyword.BadKeyword m)) (Some keyword.Unbuilt) h k = absurd (s
 one_fault t (Some (keyword.BadKeyword m)) (Some keyword.OutOfMemory) h k = absurd k
 one_fault t (Some keyword.Unbuilt) None h k = absurd (not_valid t h.0 IsUnbuilt unbuilt h.1 k)
 one_fault t (Some keyword.Unbuilt) (Some keyword.NotAnObject) h k = absurd (no_object t k h.1.object)
-one_fault t (Some keyword.Unbuilt) (Some (keyword.UnknownKeyword n)) h k = absurd (same_pair t n h.0 IsUnknown IsUnbuilt unknown unbuilt unknown_unbuilt k h.1)
+one_fault t (Some keyword.Unbuilt) (Some (keyword.UnknownKeyword n)) h k =
+    absurd (same_pair t n h.0 IsUnknown IsUnbuilt unknown unbuilt unknown_unbuilt k h.1)
 one_fault t (Some keyword.Unbuilt) (Some (keyword.BadKeyword n)) h k = absurd (same_pair t h.0 n IsUnbuilt IsBad unbuilt bad unbuilt_bad h.1 k)
 one_fault t (Some keyword.Unbuilt) (Some keyword.Unbuilt) h k = refl
 one_fault t (Some keyword.Unbuilt) (Some keyword.OutOfMemory) h k = absurd k

@@ -70,9 +70,11 @@ whole_on x y s h = (
 -- what holds of two trees of one kind with the same content holds of two trees that are the same
 module _ (P : Tree → Tree → Type 0) where
   by_kind : P (scalar null) (scalar null) → ((a b : Bool) → a ≡ b → P (scalar (boolean a)) (scalar (boolean b)))
-      → ((x y : Decimal) → IsSameValue x y → P (scalar (number x)) (scalar (number y))) → ((a b : List ℕ) → a ≡ b → P (scalar (string a)) (scalar (string b)))
+      → ((x y : Decimal) → IsSameValue x y → P (scalar (number x)) (scalar (number y)))
+      → ((a b : List ℕ) → a ≡ b → P (scalar (string a)) (scalar (string b)))
       → ((ts us : Elements) → SameElements ts us → P (array ts) (array us))
-      → ((ms ns : Members) → length (pairs_in ms) ≡ length (pairs_in ns) → SameMembers ms ns → P (object ms) (object ns)) → (d e : Tree) → Same d e → P d e
+      → ((ms ns : Members) → length (pairs_in ms) ≡ length (pairs_in ns) → SameMembers ms ns → P (object ms) (object ns))
+      → (d e : Tree) → Same d e → P d e
   by_kind z b n t l o (scalar null) (scalar null) s = z
   by_kind z b n t l o (scalar null) (scalar (boolean y)) s = absurd s
   by_kind z b n t l o (scalar null) (scalar (number y)) s = absurd s
@@ -102,7 +104,9 @@ one_type : (d e : Tree) → Same d e → type_of d ≡ type_of e
 one_type = by_kind (λ d e. type_of d ≡ type_of e) refl (λ a b s. refl) (λ x y s. refl) (λ a b s. refl) (λ ts us s. refl) (λ ms ns n s. refl)
 
 one_string : (d e : Tree) → Same d e → as_string d ≡ as_string e
-one_string = by_kind (λ d e. as_string d ≡ as_string e) refl (λ a b s. refl) (λ x y s. refl) (λ a b s. ap (λ (t : List ℕ). let o : Option (List ℕ) = Some t in o) s) (λ ts us s. refl) (λ ms ns n s. refl)
+one_string =
+    by_kind (λ d e. as_string d ≡ as_string e) refl (λ a b s. refl) (λ x y s. refl)
+    (λ a b s. ap (λ (t : List ℕ). let o : Option (List ℕ) = Some t in o) s) (λ ts us s. refl) (λ ms ns n s. refl)
 
 -- there are as many elements
 as_many : (ts us : Elements) → SameElements ts us → length (trees_in ts) ≡ length (trees_in us)
@@ -125,7 +129,9 @@ one_count counted_as.Members d e s = by_kind (λ d e. count_of counted_as.Member
 
 -- the same as a whole number is a whole number
 integer_on : (d e : Tree) → Same d e → IsInteger d → IsInteger e
-integer_on = by_kind (λ d e. IsInteger d → IsInteger e) (λ h. h) (λ a b s h. h) (λ x y s h. (refl, whole_on x y s h.1)) (λ a b s h. h) (λ ts us s h. h) (λ ms ns n s h. h)
+integer_on =
+    by_kind (λ d e. IsInteger d → IsInteger e) (λ h. h) (λ a b s h. h) (λ x y s h. (refl, whole_on x y s h.1)) (λ a b s h. h)
+    (λ ts us s h. h) (λ ms ns n s h. h)
 
 -- and of the same types
 type_on : (d e : Tree) (t : JsonType) → Same d e → IsOfType d t → IsOfType e t
@@ -147,7 +153,8 @@ found_on k (member l t ms) ns s h = go (bytes_eq k l) refl h (found_on k ms ns s
     first : k ≡ l → IsSome (lookup k (pairs_in ns))
     first e = subst (λ (j : List ℕ). IsSome (lookup j (pairs_in ns))) (sym e) (some_of (lookup l (pairs_in ns)) (λ u. Same t u) s.0)
 
-    go : (b : Bool) → bytes_eq k l ≡ b → IsSome (if b then Some t else lookup k (pairs_in ms)) → (IsSome (lookup k (pairs_in ms)) → IsSome (lookup k (pairs_in ns))) → IsSome (lookup k (pairs_in ns))
+    go : (b : Bool) → bytes_eq k l ≡ b → IsSome (if b then Some t else lookup k (pairs_in ms))
+        → (IsSome (lookup k (pairs_in ms)) → IsSome (lookup k (pairs_in ns))) → IsSome (lookup k (pairs_in ns))
     go true e h f = first ((bytes_eq-Decides k l).0 e)
     go false e h f = f h
 
@@ -159,7 +166,8 @@ all_on P Q f (v ∷ vs) h = (f v h.0, all_on P Q f vs h.1)
 -- the required keys of the first are keys of the second
 required_on : (v d e : Tree) → Same d e → Holds Required v d → Holds Required v e
 required_on v = by_kind (λ d e. Holds Required v d → Holds Required v e) (λ h. h) (λ a b s h. h) (λ x y s h. h) (λ a b s h. h) (λ ts us s h. h)
-    (λ ms ns n s h. all_on (IsKeyOf (pairs_in ms)) (IsKeyOf (pairs_in ns)) (λ u g. IfSome_then (as_string u) g (λ k f. found_on k ms ns s f)) (elements_of v) h)
+    (λ ms ns n s h. all_on (IsKeyOf (pairs_in ms)) (IsKeyOf (pairs_in ns))
+    (λ u g. IfSome_then (as_string u) g (λ k f. found_on k ms ns s f)) (elements_of v) h)
 
 -- ---- each keyword
 
@@ -167,10 +175,12 @@ required_on v = by_kind (λ d e. Holds Required v d → Holds Required v e) (λ 
 bound_on : (R : Decimal → Decimal → Type 0) → ((m x y : Decimal) → IsSameValue x y → R m x → R m y) → (v d e : Tree) → Same d e
     → IfSome (as_number v) (λ m. IfSome (as_number d) (R m)) → IfSome (as_number v) (λ m. IfSome (as_number e) (R m))
 bound_on R f v d e s h = IfSome_then (as_number v) h
-    (λ m. by_kind (λ d e. IfSome (as_number d) (R m) → IfSome (as_number e) (R m)) (λ g. g) (λ a b s g. g) (λ x y s g. f m x y s g) (λ a b s g. g) (λ ts us s g. g) (λ ms ns n s g. g) d e s)
+    (λ m. by_kind (λ d e. IfSome (as_number d) (R m) → IfSome (as_number e) (R m)) (λ g. g) (λ a b s g. g)
+    (λ x y s g. f m x y s g) (λ a b s g. g) (λ ts us s g. g) (λ ms ns n s g. g) d e s)
 
 -- what holds of a count holds of an equal count
-limit_on : (R : Decimal → ℕ → Type 0) (v : Tree) (o p : Option ℕ) → o ≡ p → IfSome (as_number v) (λ m. IfSome o (R m)) → IfSome (as_number v) (λ m. IfSome p (R m))
+limit_on : (R : Decimal → ℕ → Type 0) (v : Tree) (o p : Option ℕ) → o ≡ p → IfSome (as_number v) (λ m. IfSome o (R m))
+    → IfSome (as_number v) (λ m. IfSome p (R m))
 limit_on R v o p e h = subst (λ (q : Option ℕ). IfSome (as_number v) (λ m. IfSome q (R m))) e h
 
 -- a number stands to a limit as each number of its value does

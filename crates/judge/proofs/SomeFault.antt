@@ -20,7 +20,10 @@ use Rattle.judge.proofs.Decided.{Decided, decided_all, decided_and, decided_belo
 
 decided_distinct : (vs : List Tree) → Decided (AreDistinct vs)
 decided_distinct [] = inl tt
-decided_distinct (v ∷ vs) = decided_both (decided_all (λ u. as_string u ≡ as_string v → ⊥) (λ u. decided_not (same_texts (as_string u) (as_string v))) vs) (decided_distinct vs)
+decided_distinct (v ∷ vs) =
+    decided_both
+    (decided_all (λ u. as_string u ≡ as_string v → ⊥) (λ u. decided_not (same_texts (as_string u) (as_string v))) vs)
+    (decided_distinct vs)
 
 decided_type_name : (v : Tree) → Decided (IsTypeName v)
 decided_type_name v = decided_type (λ t. IsNameOf t v) (λ t. same_texts (as_string v) (Some (name_of t)))

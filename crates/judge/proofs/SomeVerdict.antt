@@ -31,7 +31,9 @@ decided_named : (t : JsonType) (v : Tree) → Decided (IsNamed t v)
 decided_named t v = decided_either (same_texts (as_string v) (Some (name_of t))) (decided_among (name_of t) (elements_of v))
 
 decided_of_type : (d : Tree) (t : JsonType) → Decided (IsOfType d t)
-decided_of_type d t = decided_either (same_type t (type_of d)) (decided_both (same_type t Integer) (decided_both (decided_true (is_number d)) (decided_whole (decimal_in d))))
+decided_of_type d t =
+    decided_either (same_type t (type_of d)) (decided_both (same_type t Integer)
+    (decided_both (decided_true (is_number d)) (decided_whole (decimal_in d))))
 
 -- one of the named types is the document's
 decided_types : (v d : Tree) → Decided ((t : JsonType) × IsNamed t v × IsOfType d t)
@@ -43,11 +45,13 @@ decided_types v d = elim (decided_type (λ t. IsNamed t v × IsOfType d t) (λ t
 -- ---- bounds and counts
 
 -- two numbers, where both trees are numbers
-decided_bound : (R : Decimal → Decimal → Type 0) → ((m x : Decimal) → Decided (R m x)) → (v d : Tree) → Decided (IfSome (as_number v) (λ m. IfSome (as_number d) (R m)))
+decided_bound : (R : Decimal → Decimal → Type 0) → ((m x : Decimal) → Decided (R m x)) → (v d : Tree)
+    → Decided (IfSome (as_number v) (λ m. IfSome (as_number d) (R m)))
 decided_bound R h v d = decided_if (λ m. IfSome (as_number d) (R m)) (λ m. decided_if (R m) (h m) (as_number d)) (as_number v)
 
 -- a number and a count
-decided_limit : (R : Decimal → ℕ → Type 0) → ((m : Decimal) (n : ℕ) → Decided (R m n)) → (v : Tree) (count : Option ℕ) → Decided (IfSome (as_number v) (λ m. IfSome count (R m)))
+decided_limit : (R : Decimal → ℕ → Type 0) → ((m : Decimal) (n : ℕ) → Decided (R m n)) → (v : Tree) (count : Option ℕ)
+    → Decided (IfSome (as_number v) (λ m. IfSome count (R m)))
 decided_limit R h v count = decided_if (λ m. IfSome count (R m)) (λ m. decided_if (R m) (h m) count) (as_number v)
 
 decided_reaches : (m : Decimal) (n : ℕ) → Decided (Reaches m n)

@@ -2,7 +2,7 @@
 ghost use Rattle.std.specs.Prelude.{◌≡◌, ◌∷◌, ◌++◌, [], ℕ, List, IfOk, IsNone, IsSomeAnd, MatchOption};
 ghost use Rattle.jsonb.specs.HexText.{IsHexText};
 ghost use Rattle.judge.specs.Answers.{IsPair, LineAnswer, name_of};
-ghost use Rattle.judge.specs.Feeding.{AnswersOne};
+ghost use Rattle.judge.specs.inner.Feeding.{AnswersOne};
 
 use crate::cut::cut_at;
 use crate::{Fault, JudgeError, judge};

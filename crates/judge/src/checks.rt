@@ -4,7 +4,8 @@ ghost use Rattle.std.specs.Prelude.{ℕ, ◌≡◌, ◌↔◌, ◌⊎◌, ◌≤
 ghost use Rattle.json_model.specs.Nest.{nest};
 ghost use Rattle.json_model.specs.Tree.{Tree};
 ghost use Rattle.judge.specs.Names.{keyword_of};
-ghost use Rattle.judge.specs.Passes.{AddFault, Adds, HasRoom, HasThisFault, IsCompiled, IsCompiledMember, IsFault, IsFree, Meets, Passes, Took};
+ghost use Rattle.judge.specs.Compiled.{HasThisFault, IsCompiled, IsCompiledMember, IsFault};
+ghost use Rattle.judge.specs.inner.Passes.{AddFault, Adds, HasRoom, IsFree, Meets, Passes, Took};
 ghost use Rattle.judge.specs.Verdict.{count_of};
 ghost use Rattle.judge.specs.Validity.{IsFirst, ListsNames};
 ghost use Rattle.judge.specs.declared.keyword.Keyword.{Keyword};
@@ -52,8 +53,10 @@ impl Checks {
     /// Sets the least count of a measure.
     fn set_least(&mut self, measure: Measure, limit: Limit)
         requires { IsFree (Keyword.Least measure) self.old }
-        ensures passes { (d : Tree) → Passes self.new d ↔ (Passes self.old d × IfSome (count_of measure d) (Meets limit)) }
-        ensures frees { (u : Keyword) → (u ≡ Keyword.Least measure → ⊥) → IsFree u self.old → IsFree u self.new }
+        ensures passes { (d : Tree)
+            → Passes self.new d ↔ (Passes self.old d × IfSome (count_of measure d) (Meets limit)) }
+        ensures frees { (u : Keyword) → (u ≡ Keyword.Least measure → ⊥)
+            → IsFree u self.old → IsFree u self.new }
     {
         match measure {
             Measure::CodePoints => self.code_points.least = Some(limit),
@@ -65,8 +68,10 @@ impl Checks {
     /// Sets the greatest count of a measure.
     fn set_greatest(&mut self, measure: Measure, limit: Limit)
         requires { IsFree (Keyword.Greatest measure) self.old }
-        ensures passes { (d : Tree) → Passes self.new d ↔ (Passes self.old d × IfSome (count_of measure d) (HasRoom limit)) }
-        ensures frees { (u : Keyword) → (u ≡ Keyword.Greatest measure → ⊥) → IsFree u self.old → IsFree u self.new }
+        ensures passes { (d : Tree)
+            → Passes self.new d ↔ (Passes self.old d × IfSome (count_of measure d) (HasRoom limit)) }
+        ensures frees { (u : Keyword) → (u ≡ Keyword.Greatest measure → ⊥)
+            → IsFree u self.old → IsFree u self.new }
     {
         match measure {
             Measure::CodePoints => self.code_points.greatest = Some(limit),
@@ -137,8 +142,10 @@ impl Checks {
     /// Compiles a keyword object, whose members it walks once, in key order. The error is that of the first faulty member.
     /// It takes memory for the names that `required` lists alone: no other keyword object gets want of memory.
     pub fn compile<'a, N: Node<'a>>(alloc: Global, root: &N) -> Result<Checks, KeywordError>
-        ensures right { (result ≡ Err KeywordError.OutOfMemory) ⊎ MatchResult result (IsCompiled (N.tree root.now)) (HasThisFault (N.tree root.now)) }
-        ensures names { result ≡ Err KeywordError.OutOfMemory → (m : ℕ) × IsFirst (N.tree root.now) m ListsNames }
+        ensures right { (result ≡ Err KeywordError.OutOfMemory)
+            ⊎ MatchResult result (IsCompiled (N.tree root.now)) (HasThisFault (N.tree root.now)) }
+        ensures names { result ≡ Err KeywordError.OutOfMemory
+            → (m : ℕ) × IsFirst (N.tree root.now) m ListsNames }
         ensures free { nest (N.tree root.now) ≤ 1 → result ≡ Err KeywordError.OutOfMemory → ⊥ }
     {
         let Some(object) = root.as_object() else {

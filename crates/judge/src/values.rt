@@ -15,8 +15,10 @@ use std::alloc::Global;
 /// Whether the document is valid under the keyword object, by JSON Schema 2020-12. It takes memory for the names that
 /// `required` lists alone.
 pub fn judge_values(alloc: Global, keywords: &Value, document: &Value) -> Result<bool, KeywordError>
-    ensures right { (result ≡ Err KeywordError.OutOfMemory) ⊎ RightOnTrees (tree keywords.now) (tree document.now) result }
-    ensures names { result ≡ Err KeywordError.OutOfMemory → (m : ℕ) × IsFirst (tree keywords.now) m ListsNames }
+    ensures right { (result ≡ Err KeywordError.OutOfMemory)
+        ⊎ RightOnTrees (tree keywords.now) (tree document.now) result }
+    ensures names { result ≡ Err KeywordError.OutOfMemory
+        → (m : ℕ) × IsFirst (tree keywords.now) m ListsNames }
     ensures free { nest (tree keywords.now) ≤ 1 → result ≡ Err KeywordError.OutOfMemory → ⊥ }
 {
     let checks = match Checks::compile(alloc, &ValueNode::new(keywords)) {

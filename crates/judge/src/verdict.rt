@@ -22,8 +22,10 @@ use std::alloc::Global;
 /// that `required` lists walks over the document's keys.
 pub fn judge(alloc: Global, keywords: &[u8], document: &[u8]) -> Result<bool, JudgeError>
     ensures right { (result ≡ Err JudgeError.OutOfMemory) ⊎ Right keywords.now document.now result }
-    ensures refused { (t : Tree) → Stands keywords.now t → nest t ≤ 1 → (IsJson t × IsValid t → ⊥) → result ≡ Err JudgeError.OutOfMemory → ⊥ }
-    ensures free { (t u : Tree) → Stands keywords.now t → nest t ≤ 1 → Stands document.now u → nest u ≤ 1 → result ≡ Err JudgeError.OutOfMemory → ⊥ }
+    ensures refused { (t : Tree) → Stands keywords.now t → nest t ≤ 1
+        → (IsJson t × IsValid t → ⊥) → result ≡ Err JudgeError.OutOfMemory → ⊥ }
+    ensures free { (t u : Tree) → Stands keywords.now t → nest t ≤ 1
+        → Stands document.now u → nest u ≤ 1 → result ≡ Err JudgeError.OutOfMemory → ⊥ }
 {
     let root = match Jsonb::root(alloc, keywords) {
         Ok(root) => root,

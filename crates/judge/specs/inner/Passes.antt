@@ -1,4 +1,4 @@
--- Which documents pass compiled checks, and what compiling does. The code's own words.
+-- Which documents pass compiled checks, and what a member that is taken in adds to them. The code's own words.
 use Rattle.std.specs.Prelude.{List, [], ◌∷◌, ◌++◌, ℕ, pos, ◌*◌, ◌≤◌, ◌<ℤ◌, ◌≡◌, ◌↔◌, IsTrue, IsSome, IsSomeAnd, String, string_bytes, Option, Some, None, IfSome}
 use Rattle.json_exact.specs.Exact.{exactly, parts}
 use Rattle.json_model.specs.Decimal.{Decimal}
@@ -15,8 +15,8 @@ use Rattle.json_traits.specs.declared.types.json_type.JsonType.{JsonType}
 use Rattle.json_traits.specs.declared.types.set.JsonTypeSet.{JsonTypeSet}
 use Rattle.std.specs.List.{AllByRecursion}
 use Rattle.judge.specs.Names.{keyword_of}
-use Rattle.judge.specs.Validity.{AreTypeNames, HasFault, HasForm, IsFair, IsUnknown, IsUnbuilt, IsBad, IsValid, ListsNames}
-use Rattle.judge.specs.Verdict.{IsAmong, IsNamed, Reaches, IsUpTo, count_of, Holds, HoldsAt, Verdict}
+use Rattle.judge.specs.Validity.{AreTypeNames, HasForm, IsFair}
+use Rattle.judge.specs.Verdict.{IsAmong, IsNamed, Reaches, IsUpTo, count_of, Holds, HoldsAt}
 use Rattle.judge.specs.declared.checks.Checks.{Checks}
 use Rattle.judge.specs.declared.bounds.Bounds.{Bounds}
 use Rattle.judge.specs.declared.limits.Limit.{Limit}
@@ -136,24 +136,3 @@ pub record Took (old : Checks) (p : List ℕ × Tree) (new : Checks) : Type 0 wh
   pub fair : IsFair p
   pub passes : (d : Tree) → Passes new d ↔ (Passes old d × HoldsAt d p)
   pub frees : (u : Keyword) → (keyword_of p.0 ≡ Some u → ⊥) → IsFree u old → IsFree u new
-
--- member number m is p and has the fault e
-abbrev pub IsFault : ℕ → List ℕ × Tree → KeywordError → Type 0
-IsFault m p NotAnObject = ⊥
-IsFault m p (UnknownKeyword n) = (n ≡ m) × IsUnknown p
-IsFault m p (BadKeyword n) = (n ≡ m) × IsBad p
-IsFault m p Unbuilt = IsUnbuilt p
-IsFault m p OutOfMemory = ListsNames p
-
--- the keyword object t has no fault, and a document passes the checks c exactly where it is valid
-pub record IsCompiled (t : Tree) (c : Checks) : Type 0 where
-  pub valid : IsValid t
-  pub passes : (d : Tree) → Passes c d ↔ Verdict t d
-
--- the member p has no fault, and a document passes the checks c exactly where it meets p
-pub record IsCompiledMember (p : List ℕ × Tree) (c : Checks) : Type 0 where
-  pub fair : IsFair p
-  pub passes : (d : Tree) → Passes c d ↔ HoldsAt d p
-
-abbrev pub HasThisFault : Tree → KeywordError → Type 0
-HasThisFault t e = HasFault t (Some e)

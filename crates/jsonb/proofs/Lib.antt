@@ -3,6 +3,7 @@ pub mod Groups
 pub mod FoundLaws
 pub mod KeyLoop
 pub mod Walks
+pub mod LeapLaws
 pub mod FrameLaws
 pub mod AdvanceLaws
 pub mod TreeCauses
@@ -18,6 +19,7 @@ pub mod Slices
 pub mod TypeLaws
 pub mod CursorLaws
 pub mod RiseLaws
+pub mod HalvingLaws
 pub mod LookupLaws
 pub mod SeatTrees
 pub mod SeatHolds

@@ -1,20 +1,20 @@
 -- Searching the keys of an object.
-use Rattle.std.proofs.Common.{◌≡◌, ℕ, zero, suc, ◌+◌, ◌-◌, ◌<◌, Bool, true, false, cond, List, [], ◌∷◌, Option, Some, None, refl, sym, ap, subst, ◌∙◌, arith}
-use Rattle.std.specs.Prelude.{bytes_eq}
+use Rattle.std.proofs.Common.{◌≡◌, ℕ, zero, suc, ◌+◌, ◌-◌, ◌*◌, ◌^◌, ◌<◌, ◌≤◌, Bool, true, false, cond, List, [], ◌∷◌, length, Option, Some, None, refl, sym, ap, subst, ◌∙◌, arith}
+use Rattle.std.specs.Prelude.{bytes_eq, IsSome}
 use Rattle.json_model.specs.Parts.{pairs_in, pairs_of, lookup}
 use Rattle.json_model.specs.Tree.{Tree, object, Elements, element, Members, member}
 use Rattle.jsonb_layout.specs.Layout.{Item}
 use Rattle.jsonb_layout.specs.Options.{◌>>=◌}
-use Rattle.jsonb_layout.specs.inner.Reading.{Place, item_at}
+use Rattle.jsonb_layout.specs.inner.Reading.{Place, item_at, keys_at}
 use Rattle.jsonb_layout.specs.inner.SeatReading.{seat_at}
 use Rattle.jsonb_layout.specs.Seats.{Seat}
 use Rattle.jsonb_layout.specs.inner.Trees.{elements_by, members, read, item_tree}
 use Rattle.jsonb_layout.proofs.Tools.{bind_some, some_is, some}
 use Rattle.jsonb.specs.Found.{text_found, tree_found, members_found, both}
-use Rattle.jsonb.specs.inner.Keys.{behind_key}
+use Rattle.jsonb.specs.inner.Keys.{behind_key, AreFew}
 use Rattle.jsonb.specs.Seated.{member_seats, object_seats}
 use Rattle.jsonb.specs.inner.Values.{or_null, is_clean, IsJsonTree, object_at, names_at, skip}
-use Rattle.jsonb.proofs.MemberLaws.{holds, pairs_are, keys_names, both_clean}
+use Rattle.jsonb.proofs.MemberLaws.{holds, object_length, pairs_are, keys_names, both_clean}
 use Rattle.jsonb.proofs.SeatHolds.{seats_behind, seats_behind_is}
 use Rattle.jsonb.proofs.SeatTrees.{members_step}
 use Rattle.jsonb.specs.inner.Views.{place}
@@ -223,6 +223,19 @@ outcome k s c p json r er =
     (seats_behind_is s c p o.behind (sym n.1))
     (subst (λ (ps : List (List ℕ × Tree)). Outcome s c r (lookup k ps) (lookup k (member_seats s c p o.behind))) (sym (pairs_are c p json)) found)
 
+-- the keys of an object are there, and rise
+pub keys_there : (o : JsonbObject) → IsSome (keys_at o.keys.count None (place o.keys.start))
+keys_there o = subst (λ (r : Option (List (List ℕ) × Place)). IsSome r) (sym (holds o.keys.count (place o.keys.start) o.stands).keys_are) refl
+
+-- an object counts its members
+pub members_counted : (o : JsonbObject) → o.keys.count ≡ length (pairs_of (object_tree o))
+members_counted o = object_length o.keys.count (place o.keys.start) o.stands
+
+-- steps that are few for the keys, and those for the value, are few for the members
+pub few_in_all : (o : JsonbObject) (old found end : ℕ) → AreFew o.keys.count old found → end ≤ found + 34
+    → (p : ℕ) × (2 ^ p ≤ 2 * length (pairs_of (object_tree o)) + 1) × (end ≤ old + (33 * p + 34))
+few_in_all o old found end few le = (few.0, omega (arith, few.1, members_counted o), omega (arith, few.2, le))
+
 module _ (k : List ℕ) (o : JsonbObject) where
   abbrev pairs_here : List (List ℕ × Tree)
   pairs_here = pairs_of (object_tree o)
@@ -253,8 +266,8 @@ module _ (k : List ℕ) (o : JsonbObject) where
         go (suc n) z = omega (arith, z)
 
     -- behind the key that is found come the others
-    pub passes_keys : None ≡ skip (o.keys.count - 1) a → ⊥
-    passes_keys h = let no : ◌≡◌ {A = Option Place} None (Some found.value) = h ∙ found.passed in cc
+    pub others_there : IsSome (skip (o.keys.count - 1) a)
+    others_there = subst (λ (r : Option Place). IsSome r) (sym found.passed) refl
 
     module _ {v : Place} (f : Some v ≡ skip (o.keys.count - 1) a) where
       at_value : found.value ≡ v

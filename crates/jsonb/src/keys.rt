@@ -1,7 +1,7 @@
 //! The keys of an object.
 
 ghost use Rattle.std.specs.Prelude.{◌≡◌, ◌==◌, ◌&&◌, None, option_map};
-ghost use Rattle.json_model.specs.Keys.{bytes_before};
+ghost use Rattle.json_model.specs.Keys.{bytes_before, key_before};
 ghost use Rattle.jsonb_layout.specs.inner.Reading.{follows, keys_at};
 ghost use Rattle.jsonb.specs.Found.{nothing, keys_after};
 ghost use Rattle.jsonb.specs.inner.Views.{place, found_then_place};
@@ -12,10 +12,17 @@ use crate::place::Place;
 use crate::scalar::is_text;
 use crate::walk::next_item;
 
-fn comes_before(a: &[u8], b: &[u8]) -> bool
+fn bytes_come_before(a: &[u8], b: &[u8]) -> bool
     ensures { result ≡ bytes_before a.now b.now }
 {
     a < b
+}
+
+/// Whether a key comes before another: a shorter one does, and of two of one length the one with the lower bytes.
+pub fn comes_before(a: &[u8], b: &[u8]) -> bool
+    ensures { result ≡ key_before a.now b.now }
+{
+    a.len() < b.len() || (a.len() == b.len() && bytes_come_before(a, b))
 }
 
 /// Whether a key comes after the one before it, if there is one.
@@ -24,9 +31,7 @@ fn rises(before: Option<&[u8]>, key: &[u8]) -> bool
 {
     match before {
         None => true,
-        Some(before) => {
-            before.len() < key.len() || (before.len() == key.len() && comes_before(before, key))
-        }
+        Some(before) => comes_before(before, key),
     }
 }
 

@@ -5,8 +5,8 @@ ghost use Rattle.std.specs.Prelude.{◌≡◌, ℕ, ◌+◌, ◌<◌};
 use std::marker::Model;
 use std::sync::ledger::{Blank, Book, Ledger, Share};
 
-/// A count of steps, which only proofs can read: one for each entry word that a look-up reads, and one where none is left. It takes
-/// no bytes, and only this crate counts in it.
+/// A count of steps, which only proofs can read: one for each entry word that a look-up reads. It takes no bytes, and only this
+/// crate counts in it.
 #[derive(Drop)]
 pub struct Steps<L: Ledger> {
     book: Book<L>,

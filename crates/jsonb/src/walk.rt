@@ -1,7 +1,8 @@
 //! The items of a container, one after the other.
 
-ghost use Rattle.std.specs.Prelude.{◌≡◌, ◌+◌, option_map};
-ghost use Rattle.jsonb_layout.specs.inner.Reading.{length_of, item_at};
+ghost use Rattle.std.specs.Prelude.{◌≡◌, ◌+◌, ◌*◌, ◌≤◌, length, IfSome, option_map};
+ghost use Rattle.jsonb_layout.specs.inner.Reading.{length_of, item_at, item_with};
+ghost use Rattle.jsonb.specs.inner.Keys.{word_at};
 ghost use Rattle.jsonb.specs.inner.Values.{skip};
 ghost use Rattle.jsonb.specs.inner.Views.{place, item_then_place};
 
@@ -31,21 +32,38 @@ fn piece_length(index: usize, at: usize, word: u32) -> Option<usize>
     }
 }
 
-/// The item at a place, and the place behind it.
-#[tactic(auto, unfolding(jsonb_layout::specs::inner::Reading::item_at))]
-pub fn next_item(start: Place<'_>) -> Option<(Item<'_>, Place<'_>)>
-    ensures { option_map item_then_place result ≡ item_at (place start.entry) }
+/// The entry word with this number, from 0, of those that are left.
+fn entry_word(words: &[u8], number: usize) -> u32
+    requires { 4 * number + 4 ≤ length words.now }
+    ensures { result ≡ word_at number words.now }
 {
-    if start.words.len() < 4 {
-        return None;
-    }
-    let (front, words) = start.words.split_at(4);
-    let word = u32::from_le_bytes([front[0], front[1], front[2], front[3]]);
+    let (_, from) = words.split_at(4 * number);
+    let (word, _) = from.split_at(4);
+    u32::from_le_bytes([word[0], word[1], word[2], word[3]])
+}
+
+/// The entry word with this number of those that are left, and a step for it. A look-up by key reads entry words by this
+/// call alone.
+pub fn entry_word_counted<L: Ledger>(words: &[u8], number: usize, steps: &mut Steps<L>) -> u32
+    requires { 4 * number + 4 ≤ length words.now }
+    ensures word { result ≡ word_at number words.now }
+    ensures steps { steps.new ≡ steps.old + 1 }
+{
+    steps.tick();
+    entry_word(words, number)
+}
+
+/// The item at a place, which has this entry word, and the place behind it.
+fn item_of(word: u32, start: Place<'_>) -> Option<(Item<'_>, Place<'_>)>
+    requires { 4 ≤ length start.words.now }
+    ensures { option_map item_then_place result ≡ item_with word (place start.entry) }
+{
     let length = piece_length(start.index, start.at, word)?;
     if start.rest.len() < length {
         return None;
     }
     let (piece, rest) = start.rest.split_at(length);
+    let (_, words) = start.words.split_at(4);
     let item = Item::new((word / 0x1000_0000 % 8) as u8, piece);
     let behind = Place {
         index: start.index + 1,
@@ -56,16 +74,33 @@ pub fn next_item(start: Place<'_>) -> Option<(Item<'_>, Place<'_>)>
     Some((item, behind))
 }
 
-/// The item at a place, and a step for its entry word. A look-up by key reads entry words by this call alone.
+/// The item at a place, and the place behind it.
+#[tactic(auto, unfolding(jsonb_layout::specs::inner::Reading::item_at))]
+pub fn next_item(start: Place<'_>) -> Option<(Item<'_>, Place<'_>)>
+    ensures { option_map item_then_place result ≡ item_at (place start.entry) }
+{
+    if start.words.len() < 4 {
+        return None;
+    }
+    item_of(entry_word(start.words, 0), start)
+}
+
+/// The item at a place, and a step for its entry word.
+#[tactic(auto, unfolding(jsonb_layout::specs::inner::Reading::item_at))]
 pub fn next_item_counted<'a, L: Ledger>(
     start: Place<'a>,
     steps: &mut Steps<L>,
 ) -> Option<(Item<'a>, Place<'a>)>
     ensures read { option_map item_then_place result ≡ item_at (place start.entry) }
-    ensures steps { steps.new ≡ steps.old + 1 }
+    ensures rise { steps.old ≤ steps.new }
+    ensures few { steps.new ≤ steps.old + 1 }
+    ensures steps { IfSome result (λ _. steps.new ≡ steps.old + 1) }
 {
-    steps.tick();
-    next_item(start)
+    if start.words.len() < 4 {
+        return None;
+    }
+    let word = entry_word_counted(start.words, 0, steps);
+    item_of(word, start)
 }
 
 /// Where so many items end.

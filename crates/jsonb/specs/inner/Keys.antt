@@ -1,5 +1,6 @@
--- The search for a key, as the reader walks.
-use Rattle.std.specs.Prelude.{ℕ, zero, suc, List, Option, Some, None, bytes_eq, if◌then◌else◌}
+-- The search for a key: what is found, whichever way the reader takes.
+use Rattle.std.specs.Prelude.{ℕ, zero, suc, ◌*◌, ◌+◌, ◌^◌, ◌≤◌, List, take, drop, Option, Some, None, bytes_eq, if◌then◌else◌}
+use Rattle.std.specs.Int.{w32, from_le_bytes}
 use Rattle.jsonb_layout.specs.Options.{◌>>=◌}
 use Rattle.jsonb_layout.specs.inner.Reading.{Place, item_at}
 
@@ -7,3 +8,11 @@ use Rattle.jsonb_layout.specs.inner.Reading.{Place, item_at}
 unfoldable pub behind_key : List ℕ → ℕ → Place → Option Place
 behind_key k zero p = None
 behind_key k (suc n) p = item_at p >>= λ x. if bytes_eq k x.0.piece then Some x.1 else behind_key k n x.1
+
+-- the entry word with a number, of those that are left
+abbrev pub word_at : ℕ → List ℕ → ℕ
+word_at i words = from_le_bytes w32 (take 4 (drop (4 * i) words))
+
+-- from `old` to `new` there are at most so many steps as halving n keys takes
+abbrev pub AreFew : ℕ → ℕ → ℕ → Type 0
+AreFew n old new = (p : ℕ) × (2 ^ p ≤ 2 * n + 1) × (new ≤ old + 33 * p)

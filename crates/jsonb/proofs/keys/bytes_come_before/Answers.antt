@@ -3,7 +3,7 @@ use Rattle.std.specs.Ordering.{nat_cmp, is_lt}
 use Rattle.std.proofs.lemmas.Cmp.{same_from_slice_cmp_tested}
 use Rattle.std.proofs.lemmas.Bool.Decides.{nat_tests}
 use Rattle.json_model.specs.Keys.{bytes_before}
-use Rattle.jsonb.proofs.keys.comes_before.Goals as goal
+use Rattle.jsonb.proofs.keys.bytes_come_before.Goals as goal
 
 pub returns : goal.returns
 returns c =

@@ -9,6 +9,7 @@ use Rattle.pattern_model.specs.Classes.{Atom, class_atom}
 use Rattle.pattern_model.specs.Spans.{IsAfter, PlacedItem, ReadsItem, ItemsStand, ItemsRead}
 use Rattle.pattern_model.proofs.PartTails.{after_of, short_holds, drop_less, class_atom_short}
 use Rattle.pattern_model.proofs.TokenTails.{tails_of}
+use Rattle.pattern_model.proofs.BoolLaws.{code_is}
 use Rattle.pattern_model.proofs.SpanLaws.{bytes_append, after_bytes, after_tail}
 
 pub items_more : (x y z : Text) (a b d : ℕ) (ps qs : List PlacedItem) → ItemsRead x a ps y b → ItemsRead y b qs z d →
@@ -45,12 +46,9 @@ items_stand w x y a b (p ∷ ps) h (s, (z, r, e, g)) =
       more.1,
     )
 
-is_character : (c d : ℕ) → c == d ≡ true → c ≡ d
-is_character c d e = grind (arith, nat_tests)
-
 at_first : (c : ℕ) (y : Text) → is_at c y ≡ true → y ≡ c ∷ drop 1 y
 at_first c [] e = cc
-at_first c (d ∷ y) e = ap (λ z. z ∷ y) (is_character d c e)
+at_first c (d ∷ y) e = ap (λ z. z ∷ y) (code_is d c e)
 
 hyphen_atom : (y : Text) → class_atom (45 ∷ y) ≡ Some (Atom.code 45, y)
 unfolding class_atom

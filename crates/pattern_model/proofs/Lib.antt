@@ -7,3 +7,4 @@ pub mod PlainTokens
 pub mod ItemLaws
 pub mod LiteralTrees
 pub mod LiteralMatches
+pub mod BoolLaws

@@ -1,5 +1,5 @@
 -- What follows a token is a tail of what follows the token's first character.
-use Rattle.std.proofs.Common.{◌≡◌, ℕ, zero, suc, ◌+◌, ◌*◌, ◌-◌, ◌<◌, ◌≤◌, Bool, true, false, List, [], ◌∷◌, ◌++◌, length, drop, Option, Some, None, option_map, refl, ap, arith, subst, sym, ◌∙◌, append_assoc}
+use Rattle.std.proofs.Common.{◌≡◌, ℕ, zero, suc, ◌+◌, ◌*◌, ◌-◌, ◌<◌, ◌≤◌, Bool, true, false, List, [], ◌∷◌, ◌++◌, length, drop, Option, Some, None, option_map, option_and_then, refl, ap, arith, subst, sym, ◌∙◌, append_assoc}
 use Rattle.std.specs.Prelude.{if◌then◌else◌, ◌==◌, nat_le, ◌&&◌, ◌||◌}
 use Rattle.pattern_model.specs.Tree.{Escape, Mark, Count, count_of, Token}
 use Rattle.pattern_model.specs.Text.{Text, is_at, with_front, many_in, many}
@@ -9,7 +9,7 @@ use Rattle.pattern_model.specs.Classes.{class_part, class_items}
 use Rattle.pattern_model.specs.Escapes.{character_escape, class_escape}
 use Rattle.pattern_model.specs.Properties.{past_property}
 use Rattle.pattern_model.specs.Quantifiers.{quantifier, most_from, after_comma, least_from, braces}
-use Rattle.pattern_model.specs.Groups.{flags_from, flags, opens, bracketed, marked, opening}
+use Rattle.pattern_model.specs.Groups.{to_colon, are_modifiers, if_modifiers, flags, opens, bracketed, marked, opening}
 use Rattle.pattern_model.specs.Tokens.{class_token, class_from, leaf_of_name, back_name, leaf_of_code, escape_or_code, escaped, token_from, Reads}
 use Rattle.pattern_model.proofs.PartTails.{Tails, after_of, Short, short_if, short_bind, short_map, short_text, Less, less_if, short_holds, drop_less, property_less, character_short, name_character_short, name_part_short, class_part_short, nothing, left, no_text, text}
 
@@ -50,18 +50,21 @@ braces_short : (x : Text) (n : Tails) → n.holds x → Short n (braces x)
 unfolding braces digits
 braces_short x n h = short_if (digit_at x) (least_short (digits_from 0 x) n (digits_short 0 x n h)) nothing
 
-flags_short : (i m s d : Bool) (x : Text) (n : Tails) → n.holds x → Less n (flags_from i m s d x)
-flags_short i m s d [] n h = no_text
-flags_short i m s d (c ∷ x) n h =
-    let l : n.holds x = n.next c x h in
-    less_if (c == 58) (less_if (i || (m || s)) (text l) no_text)
-    (less_if (c == 45) (less_if d no_text (flags_short i m s true x n l))
-    (less_if (c == 105) (less_if i no_text (flags_short true m s d x n l))
-    (less_if (c == 109) (less_if m no_text (flags_short i true s d x n l))
-    (less_if (c == 115) (less_if s no_text (flags_short i m true d x n l)) no_text))))
-
 front_short : {A : Type 0} (n : Tails) (xs : List A) (r : Option (List A × Text)) → Short n r → Short n (with_front xs r)
 front_short n xs r h = short_map n (λ p. (xs ++ p.0, p.1)) r (λ p. refl) h
+
+colon_short : (x : Text) (n : Tails) → n.holds x → Short n (to_colon x)
+colon_short [] n h = nothing
+colon_short (c ∷ x) n h =
+    short_if (c == 58) (left (n.next c x h)) (front_short n (c ∷ []) (to_colon x) (colon_short x n (n.next c x h)))
+
+flags_short : (x : Text) (n : Tails) → n.holds x → Less n (flags x)
+unfolding flags
+flags_short x n h = go (to_colon x) (colon_short x n h)
+  where
+    go : (o : Option (Text × Text)) → Short n o → Less n (option_and_then if_modifiers o)
+    go None s = no_text
+    go (Some p) (left l) = less_if (are_modifiers p.0) (text l) no_text
 
 many_in_short : {A : Type 0} (n : Tails) (stop : Text → Bool) (one : Text → Option (List A × Text)) →
     ((x : Text) → n.holds x → Short n (one x)) → (k : ℕ) (x : Text) → n.holds x → Short n (many_in stop one k x)
@@ -102,14 +105,13 @@ bracketed_short x n h =
     (name_short x n h)))
 
 marked_short : (x : Text) (n : Tails) → n.holds x → Short n (marked x)
-unfolding marked flags
+unfolding marked
 marked_short x n h =
     short_if (is_at 58 x) (left (drop_less 1 n x h))
     (short_if (is_at 61 x) (left (drop_less 1 n x h))
     (short_if (is_at 33 x) (left (drop_less 1 n x h))
     (short_if (is_at 60 x) (bracketed_short (drop 1 x) n (drop_less 1 n x h))
-    (short_text n (opens Mark.modified) (flags_from false false false false x) (λ y. refl)
-    (flags_short false false false false x n h)))))
+    (short_text n (opens Mark.modified) (flags x) (λ y. refl) (flags_short x n h)))))
 
 opening_short : (x : Text) (n : Tails) → n.holds x → Short n (opening x)
 unfolding opening

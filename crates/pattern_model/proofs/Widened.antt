@@ -7,6 +7,7 @@ use Rattle.pattern_model.specs.Tree.{Item, Token, Tree, tokens_of}
 use Rattle.pattern_model.specs.Classes.{Atom, class_atom, is_escape, item_of_atom, makes_range, range_to, has_hyphens, part_from, class_part, class_items}
 use Rattle.pattern_model.specs.Tokens.{class_token, class_from, token_from, Reads}
 use Rattle.pattern_model.specs.Grammar.{Grammar}
+use Rattle.pattern_model.proofs.BoolLaws.{both}
 
 -- what the one gives, the other gives
 abbrev Keeps : {A : Type 0} → Option A → Option A → Type 0
@@ -53,10 +54,6 @@ no_range (Atom.code c) o e = cc
 no_range (Atom.property b) o e = cc
 no_range (Atom.escape s) None e = refl
 no_range (Atom.escape s) (Some p) e = refl
-
-both : (a b : Bool) → a && b ≡ true → (a ≡ true) × (b ≡ true)
-both true b e = (refl, e)
-both false b e = cc
 
 hyphen_ranges : (x : Text) → is_at 45 x && is_at 45 (drop 1 x) ≡ true → makes_range x ≡ true
 unfolding makes_range

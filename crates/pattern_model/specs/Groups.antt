@@ -1,23 +1,40 @@
 -- How a group opens (ECMA-262, section 22.2.1: Atom, Assertion, GroupSpecifier, RegularExpressionModifiers).
-use Rattle.std.specs.Prelude.{Bool, None, Option, Some, [], drop, false, if◌then◌else◌, option_map, true, ◌==◌, ◌||◌, ◌∷◌}
-use Rattle.pattern_model.specs.Text.{Text, is_at}
+use Rattle.std.specs.Prelude.{Bool, None, Option, Some, [], drop, if◌then◌else◌, not, option_and_then, option_map, true, ℕ, ◌&&◌, ◌==◌, ◌||◌, ◌∷◌}
+use Rattle.std.specs.List.{list_all, list_any}
+use Rattle.pattern_model.specs.Text.{Text, is_at, with_front}
 use Rattle.pattern_model.specs.GroupNames.{name}
 use Rattle.pattern_model.specs.Tree.{Mark, Token}
 
--- RegularExpressionModifiers and the colon: at least one of `i`, `m` and `s`, none twice, and at most one hyphen; which of them
--- stood before is told
-abbrev pub flags_from : Bool → Bool → Bool → Bool → Text → Option Text
-flags_from i m s hyphen [] = None
-flags_from i m s hyphen (c ∷ x) =
-    if c == 58 then (if i || (m || s) then Some x else None)
-    else if c == 45 then (if hyphen then None else flags_from i m s true x)
-    else if c == 105 then (if i then None else flags_from true m s hyphen x)
-    else if c == 109 then (if m then None else flags_from i true s hyphen x)
-    else if c == 115 then (if s then None else flags_from i m true hyphen x)
-    else None
+-- the characters before the first colon, and what follows it
+abbrev pub to_colon : Text → Option (Text × Text)
+to_colon [] = None
+to_colon (c ∷ x) = if c == 58 then Some ([], x) else with_front (c ∷ []) (to_colon x)
 
+-- RegularExpressionModifier
+abbrev pub is_modifier : ℕ → Bool
+is_modifier c = c == 105 || (c == 109 || c == 115)
+
+abbrev pub has : ℕ → Text → Bool
+has c x = list_any (λ d. d == c) x
+
+-- the character stands there at most once
+abbrev pub is_once : ℕ → Text → Bool
+is_once c [] = true
+is_once c (d ∷ x) = if d == c then not (has c x) else is_once c x
+
+-- RegularExpressionModifiers, or two of them with a hyphen between: `i`, `m`, `s` and `-`, none of them twice, and not the
+-- hyphen alone (the early errors of section 22.2.1.1)
+abbrev pub are_modifiers : Text → Bool
+are_modifiers x =
+    list_all (λ c. is_modifier c || c == 45) x
+    && (list_any is_modifier x && (is_once 105 x && (is_once 109 x && (is_once 115 x && is_once 45 x))))
+
+abbrev pub if_modifiers : Text × Text → Option Text
+if_modifiers p = if are_modifiers p.0 then Some p.1 else None
+
+-- what follows modifiers and their colon
 unfoldable pub flags : Text → Option Text
-flags x = flags_from false false false false x
+flags x = option_and_then if_modifiers (to_colon x)
 
 abbrev pub opens : Mark → Text → Token × Text
 opens m x = (Token.opens m, x)

@@ -2,6 +2,7 @@
 use Rattle.std.proofs.Common.{◌≡◌, Bool, true, false, ◌&&◌, List, [], ◌∷◌, ◌++◌, Option, Some, None, refl, ap, sym, ◌∙◌, append_assoc, append-nil}
 use Rattle.pattern_model.specs.Tree.{Tree, empty, leaf, group, repeat, sequence, either, Token, tokens_of, Level, fits}
 use Rattle.pattern_tree.specs.Machine.{Frame, Outer, fresh, joined, push, whole, barred, can_repeat, run, begin, with_here, tree_of_tokens, alternative_of}
+use Rattle.pattern_model.proofs.BoolLaws.{and_left, and_right}
 
 -- the frame after the tokens of a tree
 abbrev pub load : Tree → Frame → Frame
@@ -11,14 +12,6 @@ load (group m t) f = push (group m t) f
 load (repeat t b) f = push (repeat t b) f
 load (sequence l r) f = load r (load l f)
 load (either l r) f = load r (barred (load l f))
-
-pub and_left : (a b : Bool) → a && b ≡ true → a ≡ true
-and_left true b e = refl
-and_left false b e = cc
-
-pub and_right : (a b : Bool) → a && b ≡ true → b ≡ true
-and_right true b e = e
-and_right false b e = cc
 
 -- a term is pushed
 pub load_term : (t : Tree) (f : Frame) → fits Level.term t ≡ true → load t f ≡ push t f

@@ -1,7 +1,7 @@
 -- What the shape of a node tells of its tree.
 use Rattle.std.proofs.Common.{◌≡◌, ℕ, ◌<◌, List, length, get_or, sym, ap, ◌∙◌, subst, refl, arith, Bool, true, false, ◌&&◌}
-use Rattle.std.specs.Prelude.{nat_lt}
-use Rattle.std.proofs.lemmas.Bool.Decides.{nat_tests}
+use Rattle.std.specs.Prelude.{nat_lt, slice_index_or}
+use Rattle.std.proofs.lemmas.List.{get_or_default}
 use Rattle.pattern_tree.specs.declared.node.Node.{Node}
 use Rattle.pattern_tree.specs.declared.node.Shape.{Shape}
 use Rattle.pattern_tree.specs.declared.node.Single.{Single}
@@ -9,24 +9,22 @@ use Rattle.pattern_tree.specs.declared.node.Single.TheVariants as singles
 use Rattle.pattern_tree.specs.declared.node.Shape.TheVariants as shapes
 use Rattle.pattern_tree.specs.declared.form.NodeId.{NodeId}
 use Rattle.pattern_tree.specs.declared.pattern.Pattern.{Pattern}
-use Rattle.pattern_model.specs.Tree.{Tree}
-use Rattle.pattern_tree.specs.Nodes.{trees_of, tree_at, built, Adds, mark_of, bounds_of}
+use Rattle.pattern_model.specs.Text.{Text}
+use Rattle.pattern_model.specs.Tree.{Leaf, Token, Tree}
+use Rattle.pattern_model.specs.Spans.{TokenStands, ItemsStand}
+use Rattle.pattern_tree.specs.Nodes.{trees_of, tree_at, built, Adds, mark_of, leaf_of, bounds_of}
 use Rattle.pattern_tree.specs.Below.{parts_below}
-use Rattle.pattern_tree.specs.Patterns.{HasNode, node_tree}
+use Rattle.pattern_tree.specs.Spans.{inside, ItemsFit, FitsShape}
+use Rattle.pattern_tree.specs.Patterns.{HasNode, SpansStand, node_tree, node_span, node_items, single_places, shape_places}
 use Rattle.pattern_tree.specs.Forms.{IsPart, IsForm, shape_form}
+use Rattle.pattern_tree.specs.FormPlaces.{FormStands}
 use Rattle.pattern_tree.proofs.NodeLemmas.{shape_at, tree_at_adds}
 use Rattle.pattern_tree.proofs.SpanSteps.{parts_at}
+use Rattle.pattern_model.proofs.BoolLaws.{both, is_below}
 
 pub fact_at : {A : Type 0} (fact : Tree → A) (ns : List Node) (i : ℕ) (n : Node) (r : A) → i < length ns → n ≡ get_or ns i n →
     ((us : List Tree) → r ≡ fact (built us n.shape)) → r ≡ fact (tree_at (trees_of ns) i)
 fact_at fact ns i n r h e g = let (us, l, a, k) = shape_at ns i n h in g us ∙ ap fact (sym (k ∙ ap (λ z. built us z.shape) (sym e)))
-
-is_below : (i n : ℕ) → nat_lt i n ≡ true → i < n
-is_below i n e = grind (arith, nat_tests)
-
-both : (a b : Bool) → a && b ≡ true → (a ≡ true) × (b ≡ true)
-both true b e = (refl, e)
-both false b e = cc
 
 abbrev as_id : ℕ → NodeId
 as_id i = record { 0 = i }
@@ -68,6 +66,52 @@ module _ (p : Pattern) (id : NodeId) (here : HasNode p id) (us : List Tree) (sam
         e ∙ (ap (λ z. Tree.either z (tree_at us j)) (same i (is_below i id.0 two.0))
             ∙ ap (Tree.either (tree_at (trees_of p.nodes.items) i)) (same j (is_below j id.0 two.1))),
       )
+
+module _ (wide : Bool) (x : Text) (p : Pattern) (id : NodeId) where
+  leaf_stands : (l : Single) → node_tree p id ≡ Tree.leaf (leaf_of l) → node_items p id ≡ single_places l →
+      TokenStands wide x (node_span p id).start (Token.leaf (leaf_of l)) (node_span p id).end →
+      ItemsFit x l (node_span p id).start (node_span p id).end → FormStands wide x p id (shape_form (shapes.Single l))
+  leaf_stands (singles.Code c) e g t i = (Leaf.code c, e, t)
+  leaf_stands singles.Dot e g t i = (Leaf.dot, e, t)
+  leaf_stands singles.Start e g t i = (Leaf.start, e, t)
+  leaf_stands singles.End e g t i = (Leaf.end, e, t)
+  leaf_stands singles.Boundary e g t i = (Leaf.boundary, e, t)
+  leaf_stands singles.NotBoundary e g t i = (Leaf.not_boundary, e, t)
+  leaf_stands (singles.Escape c) e g t i = (_, e, t)
+  leaf_stands (singles.Class b items) e g t (last, h, k) =
+      (_, t, (last, subst (λ z. ItemsStand x (inside b (node_span p id).start) z last) (sym g) h, k))
+  leaf_stands (singles.Property b) e g t i = (Leaf.property b, e, t)
+  leaf_stands (singles.BackNumber n) e g t i = (Leaf.back_number n, e, t)
+  leaf_stands (singles.BackName s) e g t i = (_, e, t)
+
+  -- the places of a node's parts are as its form says, where those of its shape are right
+  shape_stands : (us : List Tree) (shape : Shape) → node_tree p id ≡ built us shape → node_items p id ≡ shape_places shape →
+      FitsShape wide x p.nodes.items shape (node_span p id) → FormStands wide x p id (shape_form shape)
+  shape_stands us shapes.Empty e g h = h
+  shape_stands us (shapes.Single l) e g (t, i) = leaf_stands l e g t i
+  shape_stands us (shapes.Group m i) e g (o, c) = ((mark_of m, o, refl), c)
+  shape_stands us (shapes.Repeat i c) e g h = h
+  shape_stands us (shapes.Sequence i j) e g h = h
+  shape_stands us (shapes.Either i j) e g h = h
+
+-- the node that is read where its place is known to be there
+abbrev no_node : Node
+no_node = record { shape = shapes.Empty; span = record { start = 0; end = 0 } }
+
+same_node : (ns : List Node) (i : ℕ) (n : Node) → i < length ns → n ≡ get_or ns i n → slice_index_or ns i no_node ≡ n
+same_node ns i n h e = get_or_default ns i no_node n h ∙ sym e
+
+pub items_at : (p : Pattern) (id : NodeId) (n : Node) → HasNode p id → n ≡ get_or p.nodes.items id.0 n →
+    shape_places n.shape ≡ node_items p id
+items_at p id n h e = ap (λ z. shape_places z.shape) (sym (same_node p.nodes.items id.0 n h e))
+
+pub form_stands : (p : Pattern) (id : NodeId) (n : Node) → HasNode p id → n ≡ get_or p.nodes.items id.0 n →
+    (wide : Bool) (x : Text) (bytes : ℕ) → SpansStand wide x p bytes → FormStands wide x p id (shape_form n.shape)
+form_stands p id n h e wide x bytes s =
+    let (us, l, a, k) = shape_at p.nodes.items id.0 n h in
+    let is = same_node p.nodes.items id.0 n h e in
+    shape_stands wide x p id us n.shape (k ∙ ap (λ z. built us z.shape) (sym e)) (ap (λ z. shape_places z.shape) is)
+    (subst (λ z. FitsShape wide x p.nodes.items z.shape (node_span p id)) is (s.nodes id.0 no_node h))
 
 -- the form of a node is that of its shape
 pub form_at : (p : Pattern) (id : NodeId) (n : Node) → HasNode p id → n ≡ get_or p.nodes.items id.0 n → IsForm p id (shape_form n.shape)

@@ -20,10 +20,7 @@ use Rattle.pattern_model.proofs.PlainTokens.{is_class, token_plain}
 use Rattle.pattern_tree.specs.Nodes.{token_of, leaf_of}
 use Rattle.pattern_tree.specs.Spans.{inside, ItemsFit, TokenItems, PlacesItems}
 use Rattle.pattern_tree.proofs.SpanReader.{bytes_are}
-
-both : (a b : Bool) → a && b ≡ true → (a ≡ true) × (b ≡ true)
-both true b e = (refl, e)
-both false b e = cc
+use Rattle.pattern_model.proofs.BoolLaws.{both}
 
 pub a_range : (x : Text) → makes_range x ≡ true → is_at 45 x ≡ true
 unfolding makes_range

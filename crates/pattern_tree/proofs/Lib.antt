@@ -17,3 +17,4 @@ pub mod FormLaws
 pub mod MemberLaws
 pub mod ReadLemmas
 pub mod ItemLemmas
+pub mod FlagLaws

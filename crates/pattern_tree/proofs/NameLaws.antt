@@ -1,5 +1,6 @@
 -- The reading with names refuses exactly the trees that share a name where they may not.
 use Rattle.std.proofs.Common.{◌≡◌, Bool, true, false, not, ◌&&◌, List, [], ◌∷◌, ◌++◌, Option, Some, None, refl, ap, sym, ◌∙◌, append_assoc}
+use Rattle.std.proofs.Math.Bool.{or_assoc}
 use Rattle.std.proofs.lemmas.List.{append-nil}
 use Rattle.std.specs.Prelude.{if◌then◌else◌, ◌||◌, nat_eq}
 use lib.Pointwise.{pointwise}
@@ -8,7 +9,8 @@ use Rattle.pattern_tree.specs.Machine.{Frame, Outer, State, fresh, push, pushed_
 use Rattle.pattern_model.specs.SharedNames.{is_in, disjoint, mark_names, names, apart}
 use Rattle.pattern_tree.specs.LiveNames.{opt_names, live_frame, live_outer, live, run_named}
 use Rattle.pattern_tree.proofs.Sound.{term_row, row_alternative}
-use Rattle.pattern_tree.proofs.Complete.{load, load_atom, whole_load, and_left, and_right}
+use Rattle.pattern_tree.proofs.Complete.{load, load_atom, whole_load}
+use Rattle.pattern_model.proofs.BoolLaws.{and_left, and_right}
 
 and_assoc : (a b c : Bool) → (a && b) && c ≡ a && (b && c)
 and_assoc true b c = refl
@@ -18,10 +20,6 @@ disjoint_append : (xs ys zs : List Name) → disjoint (xs ++ ys) zs ≡ disjoint
 disjoint_append [] ys zs = refl
 disjoint_append (a ∷ xs) ys zs = ap (λ z. not (is_in a zs) && z) (disjoint_append xs ys zs)
     ∙ sym (and_assoc (not (is_in a zs)) (disjoint xs zs) (disjoint ys zs))
-
-or_assoc : (a b c : Bool) → (a || b) || c ≡ a || (b || c)
-or_assoc true b c = refl
-or_assoc false b c = refl
 
 pub in_append : (a : Name) (ys zs : List Name) → is_in a (ys ++ zs) ≡ is_in a ys || is_in a zs
 in_append a [] zs = refl

@@ -1,5 +1,6 @@
 -- The places of names, as tokens are read.
 use Rattle.std.proofs.Common.{Global, ◌≡◌, ℕ, ◌+◌, ◌<◌, ◌≤◌, Bool, true, false, not, ◌&&◌, List, [], ◌∷◌, ◌++◌, map, Option, Some, None, option_map, refl, ap, sym, ◌∙◌, subst, arith, append-nil, inl, inr}
+use Rattle.std.proofs.Math.Bool.{or_assoc}
 use Rattle.std.specs.Prelude.{nat_le, nat_lt, ◌||◌, if◌then◌else◌, string_bytes, String, Vec}
 use Rattle.std.specs.Option.{is_some}
 use Rattle.std.specs.Map.{lookup, update}
@@ -91,10 +92,6 @@ joined_done false a b (Some p) le f g = go (nat_le a p) (nat_lt p b) refl refl g
     go true true e f g = let h = g refl in cc
     go true false e f g = grind (arith, nat_tests)
     go false y e f g = grind (arith, nat_tests)
-
-or_assoc : (a b c : Bool) → (a || b) || c ≡ a || (b || c)
-or_assoc true b c = refl
-or_assoc false b c = refl
 
 or_false : (a : Bool) → a || false ≡ a
 or_false true = refl

@@ -26,14 +26,7 @@ use Rattle.pattern_tree.specs.Patterns.{tree_of}
 use Rattle.pattern_tree.proofs.Sound.{Shaped, finished_shaped}
 use Rattle.pattern_tree.proofs.Told.{Told, met}
 use Rattle.pattern_tree.proofs.Leads.{Leads, Ended, ends, at_end, refused_token, refused_high, refused_step, refused_name, leads_on}
-
-and_left : (a b : Bool) → a && b ≡ true → a ≡ true
-and_left true b e = refl
-and_left false b e = cc
-
-and_right : (a b : Bool) → a && b ≡ true → b ≡ true
-and_right true b e = e
-and_right false b e = cc
+use Rattle.pattern_model.proofs.BoolLaws.{and_left, and_right}
 
 and_both : (a b : Bool) → a ≡ true → b ≡ true → a && b ≡ true
 and_both true b e h = h

@@ -4,6 +4,7 @@ use Rattle.std.proofs.lemmas.List.{append-nil}
 use Rattle.std.specs.Prelude.{if◌then◌else◌}
 use Rattle.pattern_model.specs.Tree.{Leaf, Mark, Bounds, Tree, empty, leaf, group, repeat, sequence, either, Token, tokens_of, Level, fits}
 use Rattle.pattern_tree.specs.Machine.{Frame, Outer, State, fresh, push, pushed_before, whole, with_done, barred, can_repeat, repeated, closed, finished, run, step, begin, with_here, tree_of_tokens, alternative_of, spelled_option, spelled_done, spelled_frame, spelled_outer, spelled}
+use Rattle.pattern_model.proofs.BoolLaws.{and_left, and_right}
 
 abbrev pub row_ok : Option Tree → Option Tree → Bool
 row_ok None None = true
@@ -26,14 +27,6 @@ FineOuter (o ∷ os) = FineFrame o.frame × FineOuter os
 pub record Fine (s : State) : Type 0 where
   pub here : FineFrame s.here
   pub outer : FineOuter s.outer
-
-and_left : (a b : Bool) → a && b ≡ true → a ≡ true
-and_left true b e = refl
-and_left false b e = cc
-
-and_right : (a b : Bool) → a && b ≡ true → b ≡ true
-and_right true b e = e
-and_right false b e = cc
 
 both : (a b : Bool) → a ≡ true → b ≡ true → a && b ≡ true
 both true b e h = h

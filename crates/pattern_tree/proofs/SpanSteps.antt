@@ -19,6 +19,7 @@ use Rattle.pattern_tree.specs.Below.{parts_below, all_below}
 use Rattle.pattern_tree.specs.Nodes.{span_at, mark_of, InOption, InPart, InOuter}
 use Rattle.pattern_tree.specs.Parts.{with_node, between_nodes, with_term, with_alternative, with_either, with_disjunction, with_last}
 use Rattle.pattern_tree.specs.Spans.{NodeStands, FitsShape, NodesStand, TermsStand, AlternativesStand, PartStands, OuterStands, ReaderStands}
+use Rattle.pattern_model.proofs.BoolLaws.{both, is_below}
 
 abbrev no_node : Node
 no_node = record { shape = shapes.Empty; span = record { start = 0; end = 0 } }
@@ -29,10 +30,6 @@ span_old ns ms i h = ap (λ z. z.span) (get_or-append ns ms no_node i h)
 
 pub span_new : (ns : List Node) (n : Node) → span_at (ns ++ (n ∷ [])) (length ns) ≡ n.span
 span_new ns n = ap (λ z. z.span) (get_or-append_seam ns n [] no_node)
-
-both : (a b : Bool) → a && b ≡ true → (a ≡ true) × (b ≡ true)
-both true b e = (refl, e)
-both false b e = cc
 
 and_true : (a b : Bool) → a ≡ true → b ≡ true → a && b ≡ true
 and_true true b e h = h
@@ -61,9 +58,6 @@ below_at k (m ∷ ns) (suc i) d h l =
 -- the parts of a node stand before it
 pub parts_at : (ns : List Node) (i : ℕ) (d : Node) → all_below 0 ns ≡ true → i < length ns → parts_below i (get_or ns i d).shape ≡ true
 parts_at ns i d h l = let e : 0 + i ≡ i = omega arith in subst (λ z. parts_below z (get_or ns i d).shape ≡ true) e (below_at 0 ns i d h l)
-
-is_below : (i n : ℕ) → nat_lt i n ≡ true → i < n
-is_below i n e = grind (arith, nat_tests)
 
 pub below_is : (i n : ℕ) → i < n → nat_lt i n ≡ true
 below_is i n e = grind (arith, nat_tests)

@@ -9,3 +9,4 @@ pub mod Spans
 pub mod Places
 pub mod Patterns
 pub mod Forms
+pub mod FormPlaces

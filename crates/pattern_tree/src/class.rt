@@ -42,7 +42,8 @@ fn is_escape(atom: Atom) -> bool
 }
 
 fn property_atom(negated: bool, x: &str) -> Option<(Atom, &str)>
-    ensures value { property_atom negated (chars x.now) ≡ option_map (λ p. (atom_of p.0, chars p.1.now)) result }
+    ensures value { property_atom negated (chars x.now)
+        ≡ option_map (λ p. (atom_of p.0, chars p.1.now)) result }
     ensures len { IfSome result (λ p. length p.1.now ≤ length x.now) }
 {
     let after = past_property(x)?;
@@ -63,7 +64,8 @@ fn escape_or_code(c: char, x: &str) -> Option<(Atom, &str)>
 
 #[tactic(auto, unfolding(pattern_model::specs::Classes::escaped_atom))]
 fn escaped_atom(x: &str) -> Option<(Atom, &str)>
-    ensures value { escaped_atom (chars x.now) ≡ option_map (λ p. (atom_of p.0, chars p.1.now)) result }
+    ensures value { escaped_atom (chars x.now)
+        ≡ option_map (λ p. (atom_of p.0, chars p.1.now)) result }
     ensures len { IfSome result (λ p. length p.1.now < length x.now) }
 {
     let (c, after) = split_first(x)?;
@@ -77,7 +79,8 @@ fn escaped_atom(x: &str) -> Option<(Atom, &str)>
 
 #[tactic(auto, unfolding(pattern_model::specs::Classes::class_atom))]
 fn class_atom(x: &str) -> Option<(Atom, &str)>
-    ensures value { class_atom (chars x.now) ≡ option_map (λ p. (atom_of p.0, chars p.1.now)) result }
+    ensures value { class_atom (chars x.now)
+        ≡ option_map (λ p. (atom_of p.0, chars p.1.now)) result }
     ensures len { IfSome result (λ p. length p.1.now < length x.now) }
 {
     let (c, after) = split_first(x)?;
@@ -129,8 +132,11 @@ fn push(
         map item_of items.new.items ≡ map item_of items.old.items ++ (form_item form ∷ [])) }
     ensures places { IfOk result (λ _.
         map placed_of items.new.items
-        ≡ map placed_of items.old.items ++ (record { item = form_item form; start = total - length from.now; end = total - length to.now }
-        ∷ [])) }
+        ≡ map placed_of items.old.items ++ ((record {
+          item = form_item form;
+          start = total - length from.now;
+          end = total - length to.now;
+        }) ∷ [])) }
 {
     let span = Span {
         start: total - from.len(),
@@ -153,8 +159,10 @@ fn class_part<'a>(
         (new : List Item) × (class_part wide (chars x.now) ≡ Some (new, chars y.now))
         × (map item_of items.new.items ≡ map item_of items.old.items ++ new))) }
     ensures places { IfOk result (λ o. IfSome o (λ y.
-        (new : List PlacedItem) × (map placed_of items.new.items ≡ map placed_of items.old.items ++ new)
-        × ItemsRead (chars x.now) (total - length x.now) new (chars y.now) (total - length y.now))) }
+        (new : List PlacedItem)
+        × (map placed_of items.new.items ≡ map placed_of items.old.items ++ new)
+        × ItemsRead (chars x.now) (total - length x.now) new (chars y.now)
+        (total - length y.now))) }
     ensures len { IfOk result (λ o. IfSome o (λ y. length y.now < length x.now)) }
 {
     let Some((atom, after)) = class_atom(x) else {

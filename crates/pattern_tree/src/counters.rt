@@ -27,7 +27,8 @@ pub struct Counters {
 impl Counters {
     fn open(&mut self, mark: &Mark)
         requires { self.old.groups < 2 ^ 32 }
-        ensures groups { self.new.groups ≡ self.old.groups + token_captures (tree.Token.opens (mark_of mark.now)) }
+        ensures groups { self.new.groups
+            ≡ self.old.groups + token_captures (tree.Token.opens (mark_of mark.now)) }
         ensures highest { self.new.highest ≡ self.old.highest }
         ensures references { self.new.references ≡ self.old.references }
     {
@@ -67,7 +68,8 @@ impl Counters {
     /// Takes a token.
     pub fn take(&mut self, token: &Token) -> Result<(), AllocError>
         requires { self.old.groups < 2 ^ 32 }
-        ensures groups { OnOk result (self.new.groups ≡ self.old.groups + token_captures (token_of token.now)) }
+        ensures groups { OnOk result (
+            self.new.groups ≡ self.old.groups + token_captures (token_of token.now)) }
         ensures highest { OnOk result ((m : ℕ) → nat_le self.new.highest m
             ≡ (nat_le self.old.highest m && in_number m (token_numbers (token_of token.now)))) }
         ensures references { OnOk result (map string_bytes self.new.references.items

@@ -69,7 +69,8 @@ fn itself(c: char, x: &str) -> Option<(u32, &str)>
 /// The code point of an escape, whose character after the backslash is `c`.
 #[tactic(auto, unfolding(pattern_model::specs::Escapes::character_escape))]
 pub(crate) fn character_escape(c: char, x: &str) -> Option<(u32, &str)>
-    ensures value { character_escape c (chars x.now) ≡ option_map (λ p. (p.0, chars p.1.now)) result }
+    ensures value { character_escape c (chars x.now)
+        ≡ option_map (λ p. (p.0, chars p.1.now)) result }
     ensures small { IfSome result (λ p. p.0 < 1114112) }
     ensures len { IfSome result (λ p. length p.1.now ≤ length x.now) }
 {
@@ -197,7 +198,8 @@ fn goes_on_name(c: char) -> bool
 /// The first character of a name.
 #[tactic(auto, unfolding(pattern_model::specs::GroupNames::name_start))]
 fn name_start(x: &str) -> Option<(char, &str)>
-    ensures value { name_start (chars x.now) ≡ option_map (λ p. (encode_utf8 p.0, chars p.1.now)) result }
+    ensures value { name_start (chars x.now)
+        ≡ option_map (λ p. (encode_utf8 p.0, chars p.1.now)) result }
     ensures len { IfSome result (λ p. length p.1.now < length x.now) }
 {
     let (c, after) = name_character(x)?;
@@ -211,7 +213,8 @@ fn name_start(x: &str) -> Option<(char, &str)>
 /// A further character of a name.
 #[tactic(auto, unfolding(pattern_model::specs::GroupNames::name_part))]
 fn name_part(x: &str) -> Option<(char, &str)>
-    ensures value { name_part (chars x.now) ≡ option_map (λ p. (encode_utf8 p.0, chars p.1.now)) result }
+    ensures value { name_part (chars x.now)
+        ≡ option_map (λ p. (encode_utf8 p.0, chars p.1.now)) result }
     ensures len { IfSome result (λ p. length p.1.now < length x.now) }
 {
     let (c, after) = name_character(x)?;

@@ -17,10 +17,12 @@ use std::alloc::Global;
 /// groups and the names.
 pub fn read_ecma(alloc: Global, pattern: &str) -> Result<Option<Pattern>, OutOfMemory>
     requires { length pattern.now < 2 ^ 30 }
-    ensures some { IfOk result (λ o. IfSome o (λ p. Grammar false (chars pattern.now) (tree_of p))) }
+    ensures some { IfOk result (λ o. IfSome o (λ p.
+        Grammar false (chars pattern.now) (tree_of p))) }
     ensures spans { IfOk result (λ o. IfSome o (λ p.
         SpansStand false (chars pattern.now) p (length pattern.now))) }
-    ensures none { IfOk result (λ o. IfNone o ((t : Tree) → Grammar false (chars pattern.now) t → ⊥)) }
+    ensures none { IfOk result (λ o. IfNone o (
+        (t : Tree) → Grammar false (chars pattern.now) t → ⊥)) }
 {
     Ok(read(alloc, false, pattern)?)
 }
@@ -30,10 +32,12 @@ pub fn read_ecma(alloc: Global, pattern: &str) -> Result<Option<Pattern>, OutOfM
 /// hyphens directly after it are three items, two of them a hyphen.
 pub fn read_widened(alloc: Global, pattern: &str) -> Result<Option<Pattern>, OutOfMemory>
     requires { length pattern.now < 2 ^ 30 }
-    ensures some { IfOk result (λ o. IfSome o (λ p. Grammar true (chars pattern.now) (tree_of p))) }
+    ensures some { IfOk result (λ o. IfSome o (λ p.
+        Grammar true (chars pattern.now) (tree_of p))) }
     ensures spans { IfOk result (λ o. IfSome o (λ p.
         SpansStand true (chars pattern.now) p (length pattern.now))) }
-    ensures none { IfOk result (λ o. IfNone o ((t : Tree) → Grammar true (chars pattern.now) t → ⊥)) }
+    ensures none { IfOk result (λ o. IfNone o (
+        (t : Tree) → Grammar true (chars pattern.now) t → ⊥)) }
 {
     Ok(read(alloc, true, pattern)?)
 }

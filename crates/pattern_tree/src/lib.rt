@@ -1,9 +1,9 @@
 //! Reads patterns to their trees, by the grammar of `pattern_model`: that of ECMA-262 with the Unicode flag, and a widened one.
 //!
-//! [`read_ecma`] gives the [`Pattern`] of a text of fewer than 2^30 bytes, and None exactly where the text is no pattern. A pattern is asked node by node,
-//! by [`NodeId`]: `root` is the whole, `form` says what a node is and which nodes are its parts, `span` where it stands in the
-//! text, in bytes, `items` what a class lists, `name` what a group or a back-reference is called, and `class_has` whether a code
-//! point is a member. None of these takes memory. For example `(?<n>a+)|b` has the nodes
+//! [`read_ecma`] gives the [`Pattern`] of a text of fewer than 2^30 bytes, and None exactly where the text is no pattern. A
+//! pattern is asked node by node, by [`NodeId`]: `root` is the whole, `form` says what a node is and which nodes are its parts,
+//! `span` where it stands in the text, in bytes, `items` what a class lists and where, `name` what a group or a back-reference is
+//! called, and `class_has` whether a code point is a member. None of these takes memory. For example `(?<n>a+)|b` has the nodes
 //!
 //! ```text
 //! 0  Code(97)                          5..6
@@ -40,8 +40,6 @@ mod pattern;
 mod places;
 mod reader;
 mod span;
-#[cfg(test)]
-mod tests;
 mod text;
 mod token;
 mod views;

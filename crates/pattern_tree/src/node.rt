@@ -74,7 +74,8 @@ fn append(nodes: &mut Vec<Node>, shape: Shape, span: Span) -> Result<u32, AllocE
         ≡ trees_of nodes.old.items ++ (built (trees_of nodes.old.items) shape ∷ [])) }
     ensures id { IfOk result (λ id. id ≡ length nodes.old.items) }
     ensures len { IfOk result (λ id. length nodes.new.items ≡ length nodes.old.items + 1) }
-    ensures nodes { IfOk result (λ id. with_node nodes.old.items shape span ≡ (nodes.new.items, id)) }
+    ensures nodes { IfOk result (λ id.
+        with_node nodes.old.items shape span ≡ (nodes.new.items, id)) }
 {
     let id = nodes.len() as u32;
     nodes.push(Node { shape, span })?;
@@ -89,7 +90,8 @@ pub fn add(nodes: &mut Vec<Node>, shape: Shape, span: Span) -> Result<u32, Alloc
         tree_at (trees_of nodes.new.items) id ≡ built (trees_of nodes.old.items) shape) }
     ensures id { IfOk result (λ id. id < length nodes.new.items) }
     ensures len { OnOk result (length nodes.new.items ≡ length nodes.old.items + 1) }
-    ensures nodes { IfOk result (λ id. with_node nodes.old.items shape span ≡ (nodes.new.items, id)) }
+    ensures nodes { IfOk result (λ id.
+        with_node nodes.old.items shape span ≡ (nodes.new.items, id)) }
 {
     let id = append(nodes, shape, span)?;
     Ok(id)

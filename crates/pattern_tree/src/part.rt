@@ -31,7 +31,8 @@ pub fn join(nodes: &mut Vec<Node>, before: Option<u32>, last: u32) -> Result<u32
     ensures id { IfOk result (λ id. id < length nodes.new.items) }
     ensures len { OnOk result (length nodes.old.items ≤ length nodes.new.items) }
     ensures few { OnOk result (length nodes.new.items ≤ length nodes.old.items + 1) }
-    ensures nodes { IfOk result (λ id. with_term nodes.old.items before last ≡ (nodes.new.items, id)) }
+    ensures nodes { IfOk result (λ id.
+        with_term nodes.old.items before last ≡ (nodes.new.items, id)) }
 {
     match before {
         None => Ok(last),
@@ -60,7 +61,8 @@ pub fn alternative(
     ensures id { IfOk result (λ id. id < length nodes.new.items) }
     ensures len { OnOk result (length nodes.old.items ≤ length nodes.new.items) }
     ensures few { OnOk result (length nodes.new.items ≤ length nodes.old.items + 1) }
-    ensures nodes { IfOk result (λ id. with_alternative nodes.old.items before last end ≡ (nodes.new.items, id)) }
+    ensures nodes { IfOk result (λ id.
+        with_alternative nodes.old.items before last end ≡ (nodes.new.items, id)) }
 {
     match last {
         None => add(nodes, Shape::Empty, Span { start: end, end }),
@@ -80,7 +82,8 @@ pub fn close(nodes: &mut Vec<Node>, part: Part, end: usize) -> Result<u32, Alloc
     ensures id { IfOk result (λ id. id < length nodes.new.items) }
     ensures len { OnOk result (length nodes.old.items ≤ length nodes.new.items) }
     ensures few { OnOk result (length nodes.new.items ≤ length nodes.old.items + 2) }
-    ensures nodes { IfOk result (λ id. with_disjunction nodes.old.items part end ≡ (nodes.new.items, id)) }
+    ensures nodes { IfOk result (λ id.
+        with_disjunction nodes.old.items part end ≡ (nodes.new.items, id)) }
 {
     let right = alternative(nodes, part.before, part.last, end)?;
     match part.done {

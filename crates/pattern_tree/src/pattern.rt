@@ -20,11 +20,14 @@ pub struct Pattern {
 }
 
 impl Pattern {
-    ghost use Rattle.std.specs.Prelude.{◌≡◌, ◌≤◌, map, option_map, true};
+    ghost use Rattle.std.specs.Prelude.{◌≡◌, ◌≤◌, ℕ, Bool, map, option_map, true};
     ghost use Rattle.pattern_model.specs.Members.{is_set, tree_has};
+    ghost use Rattle.pattern_model.specs.Text.{Text};
     ghost use Rattle.pattern_tree.specs.Nodes.{item_of};
+    ghost use Rattle.pattern_tree.specs.Spans.{placed_of};
     ghost use Rattle.pattern_tree.specs.Forms.{IsForm, tree_items, tree_name};
-    ghost use Rattle.pattern_tree.specs.Patterns.{HasNode, node_tree, node_span, tree_of};
+    ghost use Rattle.pattern_tree.specs.FormPlaces.{FormStands};
+    ghost use Rattle.pattern_tree.specs.Patterns.{HasNode, SpansStand, node_items, node_span, node_tree, tree_of};
 
     /// The node of the whole pattern, which stands from 0 to the end of the text.
     pub fn root(&self) -> NodeId
@@ -45,18 +48,21 @@ impl Pattern {
         self.nodes[id.0 as usize].span
     }
 
-    /// What a node is. Its parts are nodes too, with lower numbers.
+    /// What a node is. Its parts are nodes too, with lower numbers, and stand in the source where it does.
     pub fn form(&self, id: NodeId) -> Form
         requires { HasNode self.now id }
-        ensures { IsForm self.now id result }
+        ensures form { IsForm self.now id result }
+        ensures places { (wide : Bool) (x : Text) (bytes : ℕ) → SpansStand wide x self.now bytes →
+            FormStands wide x self.now id result }
     {
         form_of(&self.nodes[id.0 as usize].shape)
     }
 
-    /// The items of a class, in order; none for another node.
+    /// The items of a class, in order, each with its place; none for another node.
     pub fn items(&self, id: NodeId) -> &[ClassItem]
         requires { HasNode self.now id }
-        ensures { map item_of result.now ≡ tree_items (node_tree self.now id) }
+        ensures items { map item_of result.now ≡ tree_items (node_tree self.now id) }
+        ensures places { map placed_of result.now ≡ node_items self.now id }
     {
         items_of(&self.nodes[id.0 as usize].shape)
     }

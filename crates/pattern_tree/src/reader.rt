@@ -43,7 +43,8 @@ impl Reader {
         requires room { length self.old.nodes.items + 4 ≤ 2 ^ 32 }
         requires inside { InReader self.old }
         ensures step { OnOk result (StepsTo (tree.Token.leaf (leaf_of single)) self.old self.new) }
-        ensures stands { OnOk result (StandsOn (tokens.Single single) span.start span.end self.old self.new) }
+        ensures stands { OnOk result (
+            StandsOn (tokens.Single single) span.start span.end self.old self.new) }
     {
         let id = add(&mut self.nodes, Shape::Single(single), span)?;
         self.here = extend(&mut self.nodes, self.here, id)?;
@@ -108,7 +109,8 @@ impl Reader {
     fn times(&mut self, counts: Counts, end: usize) -> Result<bool, AllocError>
         requires room { length self.old.nodes.items + 4 ≤ 2 ^ 32 }
         requires inside { InReader self.old }
-        ensures step { IfOk result (λ yes. Moves (tree.Token.times (bounds_of counts)) self.old self.new yes) }
+        ensures step { IfOk result (λ yes.
+            Moves (tree.Token.times (bounds_of counts)) self.old self.new yes) }
         ensures stands { IfOk result (λ yes.
             yes ≡ true → (start : ℕ) →
             StandsOn (tokens.Times counts) start end self.old self.new) }
@@ -190,8 +192,10 @@ fn are_met(counters: Counters, places: &Places) -> bool
 pub fn read(alloc: Global, wide: bool, text: &str) -> Result<Option<Pattern>, AllocError>
     requires { length text.now < 2 ^ 30 }
     ensures some { IfOk result (λ o. IfSome o (λ p. Grammar wide (chars text.now) (tree_of p))) }
-    ensures spans { IfOk result (λ o. IfSome o (λ p. SpansStand wide (chars text.now) p (length text.now))) }
-    ensures none { IfOk result (λ o. IfNone o ((t : tree.Tree) → Grammar wide (chars text.now) t → ⊥)) }
+    ensures spans { IfOk result (λ o. IfSome o (λ p.
+        SpansStand wide (chars text.now) p (length text.now))) }
+    ensures none { IfOk result (λ o. IfNone o (
+        (t : tree.Tree) → Grammar wide (chars text.now) t → ⊥)) }
 {
     let total = text.len();
     let mut counters = Counters {

@@ -5,7 +5,7 @@ ghost use Rattle.std.specs.Str.{chars};
 ghost use Rattle.pattern_model.specs.Tokens as grammar;
 ghost use Rattle.pattern_model.specs.Tokens.{token_from, class_from, back_name, property_leaf, escaped};
 ghost use Rattle.pattern_model.specs.Quantifiers.{quantifier, most_from, after_comma, least_from, braces};
-ghost use Rattle.pattern_model.specs.Groups.{flags, flags_from, bracketed, marked, opening};
+ghost use Rattle.pattern_model.specs.Groups.{flags, bracketed, marked, opening};
 ghost use Rattle.pattern_model.specs.Digits as parts;
 ghost use Rattle.pattern_model.specs.Escapes as escapes;
 ghost use Rattle.pattern_model.specs.Tree.{count_of};
@@ -84,7 +84,6 @@ fn braces(x: &str) -> Option<(Token, &str)>
 }
 
 /// What follows the flags of a group and their colon.
-#[tactic(auto, unfolding(pattern_model::specs::Groups::flags))]
 fn flags(x: &str) -> Option<&str>
     ensures value { flags (chars x.now) ≡ option_map (λ y. chars y.now) result }
     ensures len { IfSome result (λ y. length y.now ≤ length x.now) }
@@ -152,7 +151,8 @@ fn bracketed(alloc: Global, x: &str) -> Result<Option<(Token, &str)>, AllocError
 /// After `(?`.
 #[tactic(auto, unfolding(pattern_model::specs::Groups::marked))]
 fn marked(alloc: Global, x: &str) -> Result<Option<(Token, &str)>, AllocError>
-    ensures value { IfOk result (λ o. marked (chars x.now) ≡ option_map (λ p. (token_of p.0, chars p.1.now)) o) }
+    ensures value { IfOk result (λ o.
+        marked (chars x.now) ≡ option_map (λ p. (token_of p.0, chars p.1.now)) o) }
     ensures len { IfOk result (λ o. IfSome o (λ p. length p.1.now ≤ length x.now)) }
 {
     if is_at(':', x) {
@@ -176,7 +176,8 @@ fn marked(alloc: Global, x: &str) -> Result<Option<(Token, &str)>, AllocError>
 /// After the parenthesis of a group.
 #[tactic(auto, unfolding(pattern_model::specs::Groups::opening))]
 fn opening(alloc: Global, x: &str) -> Result<Option<(Token, &str)>, AllocError>
-    ensures value { IfOk result (λ o. opening (chars x.now) ≡ option_map (λ p. (token_of p.0, chars p.1.now)) o) }
+    ensures value { IfOk result (λ o.
+        opening (chars x.now) ≡ option_map (λ p. (token_of p.0, chars p.1.now)) o) }
     ensures len { IfOk result (λ o. IfSome o (λ p. length p.1.now ≤ length x.now)) }
 {
     if is_at('?', x) {
@@ -229,7 +230,8 @@ fn back_name(alloc: Global, x: &str) -> Result<Option<(Token, &str)>, AllocError
 }
 
 fn property_leaf(negated: bool, x: &str) -> Option<(Token, &str)>
-    ensures value { property_leaf negated (chars x.now) ≡ option_map (λ p. (token_of p.0, chars p.1.now)) result }
+    ensures value { property_leaf negated (chars x.now)
+        ≡ option_map (λ p. (token_of p.0, chars p.1.now)) result }
     ensures len { IfSome result (λ p. length p.1.now ≤ length x.now) }
 {
     let after = past_property(x)?;
@@ -237,8 +239,8 @@ fn property_leaf(negated: bool, x: &str) -> Option<(Token, &str)>
 }
 
 fn escape_or_code(c: char, x: &str) -> Option<(Token, &str)>
-    ensures value { grammar.escape_or_code c (chars x.now) (escapes.class_escape c) ≡ option_map (λ p.
-        (token_of p.0, chars p.1.now)) result }
+    ensures value { grammar.escape_or_code c (chars x.now) (escapes.class_escape c)
+        ≡ option_map (λ p. (token_of p.0, chars p.1.now)) result }
     ensures len { IfSome result (λ p. length p.1.now ≤ length x.now) }
 {
     if let Some(escape) = class_escape(c) {

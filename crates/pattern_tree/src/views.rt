@@ -3,6 +3,8 @@
 ghost use Rattle.std.specs.Prelude.{◌≡◌, List, map, option_map};
 ghost use Rattle.pattern_model.specs.Tree as tree;
 ghost use Rattle.pattern_tree.specs.Nodes.{built, mark_of, leaf_of, item_of};
+ghost use Rattle.pattern_tree.specs.Spans.{placed_of};
+ghost use Rattle.pattern_tree.specs.Patterns.{single_places, shape_places};
 ghost use Rattle.pattern_tree.specs.Forms.{kind_of, single_form, shape_form, leaf_items, tree_items, mark_name, leaf_name, tree_name};
 
 use crate::class_item::ClassItem;
@@ -70,7 +72,8 @@ pub(crate) fn form_of(shape: &Shape) -> Form
 }
 
 fn single_items(single: &Single) -> &[ClassItem]
-    ensures { map item_of result.now ≡ leaf_items (leaf_of single.now) }
+    ensures items { map item_of result.now ≡ leaf_items (leaf_of single.now) }
+    ensures places { map placed_of result.now ≡ single_places single.now }
 {
     match single {
         Single::Class(_, items) => items,
@@ -79,7 +82,9 @@ fn single_items(single: &Single) -> &[ClassItem]
 }
 
 pub(crate) fn items_of(shape: &Shape) -> &[ClassItem]
-    ensures { (ts : List tree.Tree) → map item_of result.now ≡ tree_items (built ts shape.now) }
+    ensures items { (ts : List tree.Tree) →
+        map item_of result.now ≡ tree_items (built ts shape.now) }
+    ensures places { map placed_of result.now ≡ shape_places shape.now }
 {
     match shape {
         Shape::Single(single) => single_items(single),
@@ -106,7 +111,8 @@ fn single_name(single: &Single) -> Option<&str>
 }
 
 pub(crate) fn name_of(shape: &Shape) -> Option<&str>
-    ensures { (ts : List tree.Tree) → option_map (λ n. n.now) result ≡ tree_name (built ts shape.now) }
+    ensures { (ts : List tree.Tree) →
+        option_map (λ n. n.now) result ≡ tree_name (built ts shape.now) }
 {
     match shape {
         Shape::Single(single) => single_name(single),

@@ -78,7 +78,8 @@ returns-then-has_hyphens-clause-places c =
     let r = c.requires in (
       _,
       three_more _ _ _ _ _ _ _ c.in_ok-push.ensures.places c.in_ok-push-2.ensures.places c.in_ok-push-3.ensures.places,
-      item_then total x y end (form_item c.form_of.result) (item_between total (Item.one 45) y hyphen ∷ item_between total (Item.one 45) hyphen end ∷ []) ux uy r (omega (arith, l))
+      item_then total x y end (form_item c.form_of.result)
+          (item_between total (Item.one 45) y hyphen ∷ item_between total (Item.one 45) hyphen end ∷ []) ux uy r (omega (arith, l))
           (inl (record { atom = a; read = c.in-Some.ensures.value; is = sym c.form_of.ensures }))
           (item_then total y hyphen end (Item.one 45) (item_between total (Item.one 45) hyphen end ∷ []) uy uh (omega (arith, l, r)) m
           (reads_hyphen (chars y) (chars hyphen) two.0 c.rest-hyphen.ensures.value)

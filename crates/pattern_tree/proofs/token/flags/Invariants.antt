@@ -2,7 +2,8 @@ use Rattle.std.proofs.Common.{◌≡◌, ◌≤◌, length}
 use denote.Text.{Utf8}
 use denote.Shadow.{shadow}
 use Rattle.std.specs.Str.{chars}
-use Rattle.pattern_model.specs.Groups.{flags, flags_from}
+use Rattle.pattern_model.specs.Groups.{flags}
+use Rattle.pattern_tree.proofs.FlagLaws.{flags_from}
 use Rattle.pattern_tree.proofs.token.flags.Given as goal
 
 abbrev pub invariant-loop-c : goal.invariant-loop-c

@@ -1,0 +1,21 @@
+-- Truth values and tests.
+use Rattle.std.proofs.Common.{◌≡◌, ℕ, ◌<◌, Bool, true, false, ◌&&◌, refl, arith}
+use Rattle.std.specs.Prelude.{nat_lt, ◌==◌}
+use Rattle.std.proofs.lemmas.Bool.Decides.{nat_tests}
+
+pub and_left : (a b : Bool) → a && b ≡ true → a ≡ true
+and_left true b e = refl
+and_left false b e = cc
+
+pub and_right : (a b : Bool) → a && b ≡ true → b ≡ true
+and_right true b e = e
+and_right false b e = cc
+
+pub both : (a b : Bool) → a && b ≡ true → (a ≡ true) × (b ≡ true)
+both a b e = (and_left a b e, and_right a b e)
+
+pub is_below : (i n : ℕ) → nat_lt i n ≡ true → i < n
+is_below i n e = grind (arith, nat_tests)
+
+pub code_is : (c d : ℕ) → c == d ≡ true → c ≡ d
+code_is c d e = grind (arith, nat_tests)

@@ -16,11 +16,32 @@
 //!
 //! The text has fewer than 2^30 bytes. It is gone over from left to right, the digits of a count a few times. The call takes
 //! memory for the tree; [`OutOfMemory`] says that memory could not be had.
+//!
+//! [`analyze_pattern`] finds the patterns that need no engine, the literal ones, and says what they ask of a text:
+//!
+//! | pattern | analysis |
+//! |---|---|
+//! | `^x-` | `Prefix` of `x-` |
+//! | `^\$ref$` | `Exact` of `$ref` |
+//! | `^(b\|a)$` | `Alternation` of `a` and `b` |
+//! | `^\S*$` | `NoWhitespace` |
+//! | `foo`, `^foo.*`, `^(a)\|(b)$` | none: these are patterns, but not literal |
+//!
+//! [`laws`] says that each literal pattern is a pattern, and that its analysis hits a text exactly where the pattern's tree
+//! matches some part of the text. [`pattern_as_prefix`] gives the text of a `Prefix` alone, and [`is_ecma_whitespace`] and
+//! [`contains_ecma_whitespace`] know the characters of `\s`.
 #![tactic(auto)]
 
+mod analysis;
+pub mod laws;
+mod literal;
 #[cfg(test)]
 mod tests;
+mod text;
 mod validity;
+mod whitespace;
 
+pub use analysis::{PatternAnalysis, analyze_pattern, pattern_as_prefix};
 pub use pattern_tree::OutOfMemory;
 pub use validity::is_valid_ecma_regex;
+pub use whitespace::{contains_ecma_whitespace, is_ecma_whitespace};

@@ -1,4 +1,6 @@
+use crate::analysis::{analyze_pattern, pattern_as_prefix};
 use crate::validity::is_valid_ecma_regex;
+use crate::whitespace::contains_ecma_whitespace;
 use pattern_tree::OutOfMemory;
 use std::alloc::Global;
 
@@ -111,5 +113,74 @@ fn deep_and_wide_patterns(rt: HostRuntime) {
             Ok(Some(expected)),
             "{front}"
         );
+    }
+}
+
+#[test]
+fn literal_patterns_and_others(rt: HostRuntime) {
+    let table = [
+        ("^", "Some(Prefix(\"\"))", "Some(\"\")"),
+        ("^$", "Some(Exact(\"\"))", "None"),
+        ("^()$", "Some(Alternation([\"\"]))", "None"),
+        ("^a\\.b", "Some(Prefix(\"a.b\"))", "Some(\"a.b\")"),
+        ("^a/_-Z9$", "Some(Exact(\"a/_-Z9\"))", "None"),
+        ("^\\$ref", "Some(Prefix(\"$ref\"))", "Some(\"$ref\")"),
+        ("^\\$ref$", "Some(Exact(\"$ref\"))", "None"),
+        (
+            "^(c|a|b|a)$",
+            "Some(Alternation([\"a\", \"a\", \"b\", \"c\"]))",
+            "None",
+        ),
+        ("^(\\/|)$", "Some(Alternation([\"\", \"/\"]))", "None"),
+        ("^\\S*$", "Some(NoWhitespace)", "None"),
+        ("", "None", "None"),
+        ("foo", "None", "None"),
+        ("^foo.*", "None", "None"),
+        ("^(a)|(b)$", "None", "None"),
+        ("^(a", "None", "None"),
+        ("^(a)", "None", "None"),
+        ("^a|b", "None", "None"),
+        ("^a$b", "None", "None"),
+        ("^a\\", "None", "None"),
+        ("^\\d", "None", "None"),
+        ("^\\S*", "None", "None"),
+        ("^é", "None", "None"),
+    ];
+    let alloc = rt.alloc();
+    for (pattern, analysis, prefix) in table {
+        match (
+            analyze_pattern(alloc, pattern),
+            pattern_as_prefix(alloc, pattern),
+        ) {
+            (Ok(found), Ok(text)) => {
+                assert_eq!(rt;
+                    format!(in alloc; "{found:?}").as_deref(),
+                    Ok(analysis),
+                    "{pattern}"
+                );
+                assert_eq!(rt;
+                    format!(in alloc; "{text:?}").as_deref(),
+                    Ok(prefix),
+                    "{pattern}"
+                );
+            }
+            _ => panic!(rt; "out of memory at {pattern}"),
+        }
+    }
+}
+
+#[test]
+fn texts_with_and_without_whitespace(rt: HostRuntime) {
+    let table = [
+        ("", false),
+        ("a\u{A0}b", true),
+        ("\u{FEFF}", true),
+        ("\u{A20}", false),
+        ("\u{2820}", false),
+        ("\u{85}", false),
+        ("\u{180E}", false),
+    ];
+    for (text, expected) in table {
+        assert_eq!(rt; contains_ecma_whitespace(text), expected, "{text:?}");
     }
 }

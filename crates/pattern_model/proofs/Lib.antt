@@ -5,4 +5,6 @@ pub mod SpanLaws
 pub mod Widened
 pub mod PlainTokens
 pub mod ItemLaws
+pub mod LiteralTrees
+pub mod LiteralMatches
 pub mod BoolLaws

@@ -15,3 +15,5 @@ pub mod BackReferences
 pub mod Grammar
 pub mod Spans
 pub mod Members
+pub mod Matches
+pub mod Literals

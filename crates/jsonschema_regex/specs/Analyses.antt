@@ -1,0 +1,14 @@
+-- What an analysis in memory says: its texts, as code points.
+use Rattle.std.specs.Prelude.{map, ◌≡◌}
+use Rattle.std.specs.Str.{chars}
+use Rattle.std.specs.String.{string_bytes}
+use Rattle.std.specs.Cow.{cow_str_bytes}
+use Rattle.pattern_model.specs.Literals.{Analysis}
+use Rattle.jsonschema_regex.specs.declared.analysis.PatternAnalysis.{PatternAnalysis}
+use Rattle.jsonschema_regex.specs.declared.analysis.PatternAnalysis.TheVariants.{Prefix, Exact, Alternation, NoWhitespace}
+
+abbrev pub analysis_of : PatternAnalysis → Analysis
+analysis_of (Prefix t) = Analysis.prefix (chars (cow_str_bytes t))
+analysis_of (Exact t) = Analysis.exact (chars (cow_str_bytes t))
+analysis_of (Alternation ts) = Analysis.alternation (map (λ t. chars (string_bytes t)) ts.items)
+analysis_of NoWhitespace = Analysis.no_whitespace

@@ -11,7 +11,7 @@ use Rattle.json_exact.specs.inner.DecimalFields.{parts_of, IsFields}
 use Rattle.json_exact.specs.inner.DecimalInverseLaws.{fields_of, fields_of-parts_of, some_parts}
 use Rattle.json_exact.specs.declared.decimal.Decimal.TheInside.{Inside}
 use Rattle.json_exact.proofs.DigitLaws.{power_mono, above_none, factor_last}
-use Rattle.json_exact.proofs.GroupLaws.{fours}
+use Rattle.json_model.proofs.DecimalLaws.{fours}
 use Rattle.json_exact.proofs.WholeLaws.{sized, split, below_drop, drop_length}
 
 -- the sign is the field `negative`

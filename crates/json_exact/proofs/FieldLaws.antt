@@ -4,8 +4,7 @@ use Rattle.std.proofs.Math.Nat.{mul-lt-mul_of_pos_right, eq_of_mul-eq-mul_right}
 use Rattle.std.proofs.lemmas.Nat.{pow-add}
 use Rattle.std.proofs.lemmas.Bool.{cases_lt}
 use native.Mathlib.Numerals.{unary_clauses}
-use Rattle.json_model.specs.Decimal.{HasNarrowDigits}
-use Rattle.json_exact.specs.Exact.{signed}
+use Rattle.json_model.specs.Decimal.{HasNarrowDigits, signed}
 use Rattle.json_exact.specs.Digits.{joined}
 use Rattle.json_exact.specs.inner.LeadingDigits.{Keeps}
 use Rattle.json_exact.specs.inner.LeadingDigitsLaws.{power_pos, below_len, from_len}
@@ -13,7 +12,7 @@ use Rattle.json_exact.specs.inner.DecimalFields.{parts_of, IsFields}
 use Rattle.json_exact.specs.inner.DecimalInverseLaws.{size_is}
 use Rattle.json_exact.specs.inner.SignificantDigits.{Pushed, kept, lost}
 use Rattle.json_exact.proofs.DigitLaws.{power_mono, none_of, above_of, factor_last}
-use Rattle.json_exact.proofs.GroupLaws.{fours}
+use Rattle.json_model.proofs.DecimalLaws.{fours}
 use Rattle.json_exact.proofs.NarrowLaws.{narrow_same}
 
 pub keeps_of : {b more : ℕ} (ds : List ℕ) (len : ℕ) (w : Bool) (n : ℕ) → Pushed b more ds len w n → w ≡ false → Keeps b more ds len n

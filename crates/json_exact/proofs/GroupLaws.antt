@@ -6,16 +6,11 @@ use Rattle.std.proofs.Math.Nat.{pow-suc}
 use Rattle.std.proofs.lemmas.Nat.{pow-add}
 use native.Mathlib.Numerals.{unary_clauses}
 use Rattle.json_model.specs.Decimal.{HasNarrowDigits}
+use Rattle.json_model.proofs.DecimalLaws.{fours}
 use Rattle.json_exact.specs.Exact.{parts}
 use Rattle.json_exact.specs.Digits.{joined}
 use Rattle.json_exact.specs.Groups.{groups_of, lifted, AreGroups, AreWorth}
 use Rattle.json_exact.specs.inner.SignificantDigits.{Pushed, kept, lost}
-
-pub fours : (n : ℕ) → 10000 ^ n ≡ 10 ^ (4 * n)
-fours zero = refl
-fours (suc n) =
-    let e : 4 * suc n ≡ 4 * n + 4 = omega arith in
-    pow-suc 10000 n ∙ ap (λ (x : ℕ). x * 10000) (fours n) ∙ sym (pow-add 10 (4 * n) 4) ∙ ap (λ (k : ℕ). 10 ^ k) (sym e)
 
 pub many : (bytes : List ℕ) → AreGroups bytes → length (groups_of bytes) ≡ length bytes / 2
 many [] h = refl

@@ -4,8 +4,8 @@ use Rattle.std.specs.Prelude.{int_lt, ◌↔◌}
 use Rattle.std.specs.Result.{OkIff, result_ok}
 use Rattle.std.proofs.Math.Nat.{pow-suc, mul-div_cancel, div-div-eq-div-mul, mul-lt-mul_of_pos_right, mul-le-mul_left, div-eq_of_lt, div-lt_iff_lt-mul}
 use Rattle.std.proofs.lemmas.Nat.{div-add-mod', pow-add}
-use Rattle.json_model.specs.Decimal.{IsWhole}
-use Rattle.json_exact.specs.Exact.{parts, exactly, signed}
+use Rattle.json_model.specs.Decimal.{IsWhole, signed}
+use Rattle.json_exact.specs.Exact.{parts, exactly}
 use Rattle.json_exact.specs.Digits.{count_of, count}
 use Rattle.json_exact.specs.inner.LeadingDigitsLaws.{count_step}
 use Rattle.json_exact.specs.inner.DecimalInverseLaws.{ten_pos}

@@ -7,7 +7,7 @@ use Rattle.json_exact.specs.inner.LeadingDigits.{Keeps}
 use Rattle.json_exact.specs.inner.LeadingDigitsLaws.{joined_below}
 use Rattle.json_exact.proofs.DigitPlaceLaws.{drop_at, below_at}
 use Rattle.json_exact.proofs.FieldLaws.{none_is}
-use Rattle.json_exact.proofs.GroupLaws.{fours}
+use Rattle.json_model.proofs.DecimalLaws.{fours}
 use Rattle.json_exact.proofs.NarrowLaws.{narrow_same, narrow_zeros, zeros_narrow}
 use Rattle.json_exact.proofs.WholeLaws.{split, drop_length}
 

@@ -5,8 +5,8 @@ use Rattle.std.specs.Ordering.{int_eq}
 use Rattle.std.proofs.lemmas.Bool.Decides.{Decides-int_eq}
 use Rattle.std.proofs.lemmas.Bool.{ne_eqb, eq-eqb, both_ways}
 use Rattle.std.proofs.lemmas.Nat.{pow-add}
-use Rattle.json_model.specs.Decimal.{Decimal as Written}
-use Rattle.json_exact.specs.Exact.{signed, IsWorth, parts}
+use Rattle.json_model.specs.Decimal.{Decimal as Written, signed}
+use Rattle.json_exact.specs.Exact.{IsWorth, parts}
 use Rattle.json_exact.specs.inner.NumberFields.{written_with, IsWrittenWith}
 use Rattle.json_exact.specs.declared.number.Number.TheInside.{Inside}
 use Rattle.json_exact.specs.inner.DecimalInverseLaws.{ten_pos}

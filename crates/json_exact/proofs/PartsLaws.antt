@@ -10,7 +10,7 @@ use Rattle.json_exact.specs.Exact.{parts}
 use Rattle.json_exact.specs.Digits.{joined}
 use Rattle.json_exact.specs.DecimalGroups.{IsScaled}
 use Rattle.json_exact.proofs.DigitLaws.{factor_last}
-use Rattle.json_exact.proofs.GroupLaws.{fours}
+use Rattle.json_model.proofs.DecimalLaws.{fours}
 use Rattle.json_exact.proofs.NarrowLaws.{narrow_more, narrow_back}
 use Rattle.json_exact.specs.inner.DecimalFields.{parts_of, IsFields}
 use Rattle.json_exact.specs.declared.decimal.Decimal.TheInside.{Inside}

@@ -3,10 +3,11 @@ use Rattle.std.proofs.Common.{◌≡◌, ℕ, suc, ◌+◌, ◌-◌, ◌*◌, �
 use Rattle.std.specs.Prelude.{if◌then◌else◌}
 use Rattle.std.proofs.Math.Nat.{pow-suc, mul-lt-mul_of_pos_right, mul-le-mul_right}
 use Rattle.std.proofs.lemmas.Nat.{pow-add}
-use Rattle.json_model.specs.Decimal.{HasNarrowDigits}
-use Rattle.json_exact.specs.Exact.{IsWorth, signed, parts}
+use Rattle.json_model.specs.Decimal.{HasNarrowDigits, signed}
+use Rattle.json_exact.specs.Exact.{IsWorth, parts}
 use Rattle.json_exact.specs.Digits.{joined}
-use Rattle.json_exact.specs.inner.DecimalInverseLaws.{ten_pos, abs_signed}
+use Rattle.json_exact.specs.inner.DecimalInverseLaws.{ten_pos}
+use Rattle.json_model.proofs.DecimalLaws.{abs_signed}
 use Rattle.json_exact.specs.inner.LeadingDigitsLaws.{joined_small}
 use Rattle.json_exact.specs.inner.NumberInverseLaws.{signed_times}
 use Rattle.json_exact.specs.inner.LeadingDigits.{Keeps}

@@ -7,7 +7,7 @@ use Rattle.json_model.specs.Decimal.{HasNarrowDigits}
 use Rattle.json_exact.specs.inner.LeadingDigits.{Keeps}
 use Rattle.json_exact.specs.inner.LeadingDigitsLaws.{joined_small}
 use Rattle.json_exact.proofs.DigitLaws.{ten_mono, factor_last}
-use Rattle.json_exact.proofs.GroupLaws.{fours}
+use Rattle.json_model.proofs.DecimalLaws.{fours}
 use Rattle.json_exact.proofs.NarrowLaws.{narrow_more}
 
 -- the number that the first k digits behind n make, zeros behind the last

@@ -3,8 +3,9 @@ use Rattle.std.proofs.Common.{◌≡◌, ℕ, zero, suc, ◌*◌, ◌<◌, Bool,
 use Rattle.std.specs.Prelude.{◌*ℤ◌, int_lt}
 use Rattle.std.proofs.Math.Nat.{eq_of_mul-eq-mul_right}
 use Rattle.std.proofs.lemmas.Bool.{le-ltb}
-use Rattle.json_exact.specs.Exact.{signed}
-use Rattle.json_exact.specs.inner.DecimalInverseLaws.{abs_signed, sign_signed}
+use Rattle.json_model.specs.Decimal.{signed}
+use Rattle.json_exact.specs.inner.DecimalInverseLaws.{sign_signed}
+use Rattle.json_model.proofs.DecimalLaws.{abs_signed}
 use Rattle.json_exact.specs.inner.NumberInverseLaws.{signed_times, sign_abs}
 
 -- a product has the sign of the number, and the magnitude times the factor

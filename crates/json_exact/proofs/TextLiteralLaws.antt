@@ -5,8 +5,7 @@ use Rattle.std.proofs.Math.Nat.{pow-suc, mul-le-mul_right, mod-eq_of_lt}
 use Rattle.std.proofs.lemmas.Bool.{ne_eqb, cases_lt}
 use Rattle.std.proofs.lemmas.List.{append-nil}
 use Rattle.std.proofs.lemmas.Nat.{div-add-mod'}
-use Rattle.json_model.specs.Decimal.{Decimal as Written}
-use Rattle.json_exact.specs.Exact.{signed}
+use Rattle.json_model.specs.Decimal.{Decimal as Written, signed}
 use Rattle.json_exact.specs.Digits.{count_in, count_of, count}
 use Rattle.json_exact.specs.Literal.{AreDigits, number, IsMinus, IsWholePart, IsFraction, placed, IsLiteral}
 use Rattle.json_exact.specs.Text.{digits_text, sign_text, whole_text, fraction_text, text}

@@ -6,17 +6,18 @@ use Rattle.std.proofs.lemmas.Nat.{pow-add, mod-mul-add}
 use Rattle.std.proofs.lemmas.Bool.{cases_lt}
 use Rattle.std.proofs.lemmas.List.{drop_all}
 use Rattle.std.proofs.lemmas.List.Elements.{All-nil, All-cons, All-tail}
-use Rattle.json_model.specs.Decimal.{HasNarrowDigits, IsWhole}
-use Rattle.json_exact.specs.Exact.{signed, parts, limit, exactly, IsWithinLimits}
+use Rattle.json_model.specs.Decimal.{HasNarrowDigits, IsWhole, signed}
+use Rattle.json_exact.specs.Exact.{parts, limit, exactly, IsWithinLimits}
 use Rattle.json_exact.specs.Digits.{joined, AllBelow}
 use Rattle.json_exact.specs.inner.LeadingDigits.{Keeps}
 use Rattle.json_exact.specs.inner.LeadingDigitsLaws.{power_pos, joined_below, below_len}
 use Rattle.json_exact.specs.inner.DecimalFields.{parts_of, IsFields}
 use Rattle.json_exact.specs.declared.decimal.Decimal.TheInside.{Inside}
-use Rattle.json_exact.specs.inner.DecimalInverseLaws.{abs_signed, size_is}
+use Rattle.json_exact.specs.inner.DecimalInverseLaws.{size_is}
+use Rattle.json_model.proofs.DecimalLaws.{abs_signed, fours}
 use Rattle.json_exact.specs.inner.NumberInverseLaws.{signed_times, sign_abs}
 use Rattle.json_exact.proofs.DigitLaws.{power_mono, none_of, factor_last}
-use Rattle.json_exact.proofs.GroupLaws.{fours, whole_groups}
+use Rattle.json_exact.proofs.GroupLaws.{whole_groups}
 use Rattle.json_exact.proofs.SignLaws.{abs_times}
 
 abbrev pub AreZeros : List ℕ → Type 0

@@ -15,10 +15,6 @@ exactly d = record { digits = d; places = 16383 }
 abbrev pub IsWorth : ℤ → Written → Type 0
 IsWorth d w = d *ℤ pos (10 ^ w.places) ≡ w.digits *ℤ pos parts
 
--- n, or its negation
-abbrev pub signed : Bool → ℕ → ℤ
-signed negative n = if negative then neg_ℤ (pos n) else pos n
-
 -- 10 ^ 131072, in parts
 unfoldable pub limit : ℕ
 limit = 10 ^ 131072 * parts

@@ -1,8 +1,7 @@
 -- The number literals of JSON, and what each writes: RFC 8259, section 6. Texts are lists of bytes.
 use Rattle.std.specs.Prelude.{◌≡◌, ℕ, ◌+◌, ◌-◌, ◌*◌, ◌^◌, ◌<◌, ◌≤◌, Bool, true, false, List, [], ◌∷◌, ◌++◌, map, length, ◌⊎◌, if◌then◌else◌}
-use Rattle.json_model.specs.Decimal.{Decimal as Written}
+use Rattle.json_model.specs.Decimal.{Decimal as Written, signed}
 use Rattle.json_exact.specs.Digits.{joined}
-use Rattle.json_exact.specs.Exact.{signed}
 
 abbrev pub IsDigit : ℕ → Type 0
 IsDigit c = (48 ≤ c) × (c ≤ 57)

@@ -2,10 +2,10 @@
 
 ghost use Rattle.std.specs.Prelude.{ℕ, suc, ◌+◌, ◌-◌, ◌*◌, ◌/◌, ◌%◌, ◌^◌, ◌≤◌, ◌<◌, ◌≡◌, ◌↔◌, pos, ◌+ℤ◌, ◌*ℤ◌, ◌<ℤ◌, nat_abs, int_lt, false, length, get_or, MatchOption, IfSome, IsTrue};
 ghost use Rattle.std.specs.Ordering.{nat_cmp};
-ghost use Rattle.json_model.specs.Decimal.{HasNarrowDigits, IsWhole};
+ghost use Rattle.json_model.specs.Decimal.{HasNarrowDigits, IsWhole, signed};
 ghost use Rattle.json_exact.specs.DecimalGroups.{group, IsGreatestPlace, IsLeastPlace, IsScaled};
 ghost use Rattle.json_exact.specs.Digits.{joined, count};
-ghost use Rattle.json_exact.specs.Exact.{signed, exactly, parts, IsWithinLimits};
+ghost use Rattle.json_exact.specs.Exact.{exactly, parts, IsWithinLimits};
 ghost use Rattle.json_exact.specs.Groups.{groups_of, lifted, AreGroups, AreWorth};
 ghost use Rattle.json_exact.specs.inner.SignificantDigits.{Holds};
 ghost use Rattle.json_exact.specs.inner.SignificantGroups.{HoldsGroups};

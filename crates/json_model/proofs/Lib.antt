@@ -1,2 +1,3 @@
 pub mod KindLaws
 pub mod KeyOrderLaws
+pub mod DecimalLaws

@@ -6,12 +6,12 @@ use Rattle.std.specs.Int.{w16, from_le_bytes}
 use Rattle.std.proofs.lemmas.Nat.{pow-add}
 use Rattle.std.proofs.lemmas.Bool.{ltb-true, and_parts}
 use Rattle.std.proofs.lemmas.Int.{to_z-of_z}
-use Rattle.json_model.specs.Decimal.{Decimal, HasNarrowDigits, IsNarrow}
+use Rattle.json_model.specs.Decimal.{Decimal, HasNarrowDigits, IsNarrow, signed}
 use Rattle.json_model.specs.Tree.{number, scalar}
 use Rattle.json_exact.specs.Digits.{joined as joined_in}
-use Rattle.json_exact.specs.Exact.{parts, signed, IsWorth}
+use Rattle.json_exact.specs.Exact.{parts, IsWorth}
 use Rattle.json_exact.specs.Groups.{groups_of as exact_groups, lifted, AreGroups, AreWorth}
-use Rattle.json_exact.specs.inner.DecimalInverseLaws.{abs_signed}
+use Rattle.json_model.proofs.DecimalLaws.{abs_signed}
 use Rattle.json_exact.specs.inner.NumberInverseLaws.{signed_times}
 use Rattle.json_exact.proofs.NarrowLaws.{narrow_more}
 use Rattle.json_exact.proofs.WorthLaws.{one_record}

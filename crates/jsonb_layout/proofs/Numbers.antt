@@ -7,8 +7,8 @@ use Rattle.std.proofs.Math.Nat.{pow-suc, mul-mod_left, mul-div_cancel}
 use Rattle.std.proofs.lemmas.Bool.{le-leb, leb-true, lt-leb, leb-false, lt-ltb, le-ltb, ltb-true, ltb-false, eqb-true, eqb-false, eq-eqb, ne_eqb, and_parts}
 use Rattle.std.proofs.lemmas.List.{take_at, drop_at, take-append-drop, length-append, length-drop, drop-drop, length-take-le}
 use Rattle.std.proofs.lemmas.Nat.{le_bytes_2, le_bytes_4, from_le_bytes-to_le_bytes_2, from_le_bytes-to_le_bytes_4, div-add-mod'}
-use Rattle.json_model.specs.Decimal.{Decimal}
-use Rattle.jsonb_layout.specs.Numeric.{IsVarlena, bit, short_lift, long_lift, IsShort, IsLong, joined, all_below, are_groups, signed, IsValue, Numeric}
+use Rattle.json_model.specs.Decimal.{Decimal, signed}
+use Rattle.jsonb_layout.specs.Numeric.{IsVarlena, bit, short_lift, long_lift, IsShort, IsLong, joined, all_below, are_groups, IsValue, Numeric}
 use Rattle.jsonb_layout.specs.declared.header.Header.{Header}
 use Rattle.jsonb_layout.specs.Options.{◌>>=◌, only_if}
 use Rattle.jsonb_layout.specs.inner.Reading.{varlena_of, header_of, header_with, short_of, long_of, groups_of, value_of, numeric_of}
@@ -238,12 +238,6 @@ groups_again (g ∷ gs) h =
     rw (groups_again gs t.1) (ap (λ (n : ℕ). Some (n ∷ gs)) (omega arith))
 
 -- ---- the value
-
--- a sign changes no size
-pub abs_signed : (m : Bool) (n : ℕ) → nat_abs (signed m n) ≡ n
-abs_signed true zero = refl
-abs_signed true (suc n) = refl
-abs_signed false n = refl
 
 -- what is divided without a rest
 pub whole_of : (w u : ℕ) → w % u ≡ 0 → w / u * u ≡ w

@@ -4,25 +4,20 @@ use Rattle.std.specs.Prelude.{option_map}
 use Rattle.std.proofs.Math.Nat.{pow-suc, mul-mod_left, mul-div_cancel, lt_of_mul-lt-mul_right, mul-lt-mul_of_pos_right, mul-le-mul_right, pow-le-pow_right, one-le-pow, mul_assoc}
 use Rattle.std.proofs.lemmas.Nat.{pow-add}
 use Rattle.std.proofs.lemmas.Bool.{ne_eqb, eq-eqb, lt-ltb, le-ltb, ltb-true, le-leb, lt-leb, cases_lt, and_parts}
-use Rattle.json_model.specs.Decimal.{Decimal}
+use Rattle.json_model.specs.Decimal.{Decimal, signed}
 use Rattle.jsonb_layout.specs.inner.Narrow.{is_narrow}
-use Rattle.jsonb_layout.specs.Numeric.{joined, all_below, are_groups, signed}
+use Rattle.jsonb_layout.specs.Numeric.{joined, all_below, are_groups}
 use Rattle.jsonb_layout.specs.declared.header.Header.{Header}
 use Rattle.jsonb_layout.specs.Options.{only_if}
 use Rattle.jsonb_layout.specs.inner.Reading.{value_of}
 use Rattle.jsonb_layout.proofs.Narrow.{ten_more, least, narrow_takes, narrow_again}
-use Rattle.jsonb_layout.proofs.Numbers.{whole, unit, some_of, none_of, abs_signed, whole_of}
+use Rattle.jsonb_layout.proofs.Numbers.{whole, unit, some_of, none_of, whole_of}
+use Rattle.json_model.proofs.DecimalLaws.{abs_signed, fours}
 
 -- ---- powers of ten
 
 ten : 0 < 10
 ten = lit< tt
-
-fours : (n : ℕ) → 10000 ^ n ≡ 10 ^ (4 * n)
-fours zero = refl
-fours (suc n) =
-    let e : 4 * suc n ≡ 4 * n + 4 = omega arith in
-    pow-suc 10000 n ∙ ap (λ (x : ℕ). x * 10000) (fours n) ∙ sym (pow-add 10 (4 * n) 4) ∙ ap (λ (k : ℕ). 10 ^ k) (sym e)
 
 higher : (n a q b : ℕ) → n * 10 ^ a ≡ q * 10 ^ b → (n % 10 ≡ 0 → ⊥) → b ≤ a
 higher n a q zero e last = omega arith

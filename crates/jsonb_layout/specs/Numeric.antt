@@ -45,9 +45,6 @@ all_below (g ∷ gs) = nat_lt g 10000 && all_below gs
 abbrev pub are_groups : List ℕ → Bool
 are_groups gs = all_below gs && nat_lt 0 (get_or gs 0 1) && nat_lt 0 (get_or gs (length gs - 1) 1)
 
-abbrev pub signed : Bool → ℕ → ℤ
-signed minus n = if minus then neg_ℤ (pos n) else pos n
-
 -- Group i counts 10000 ^ (weight - i), so the last one counts 10000 ^ (weight + 1 - the number of groups).
 -- With no groups the weight is 0 and the sign is plus.
 pub record IsValue (h : Header) (gs : List ℕ) (d : Decimal) : Type 0 where

@@ -15,9 +15,8 @@ use Rattle.std.proofs.lemmas.Int.{by_lt_z}
 use Rattle.std.proofs.lemmas.Slice.Eq.{bytes_eq-Decides}
 use Rattle.json_exact.proofs.SignLaws.{abs_times}
 use Rattle.json_exact.specs.inner.DecimalInverseLaws.{ten_pos}
-use Rattle.json_exact.specs.Exact.{signed}
 use Rattle.json_exact.specs.inner.NumberInverseLaws.{divided_times}
-use Rattle.json_model.specs.Decimal.{Decimal, IsBelow, IsWhole}
+use Rattle.json_model.specs.Decimal.{Decimal, IsBelow, IsWhole, signed}
 use Rattle.json_traits.specs.Weights.{same}
 use Rattle.json_traits.specs.declared.types.json_type.JsonType.{JsonType}
 use Rattle.json_traits.specs.declared.types.json_type.JsonType.TheVariants.{Null, Boolean, Integer, Number, String, Array, Object}

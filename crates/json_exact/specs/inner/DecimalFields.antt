@@ -2,8 +2,7 @@
 -- many groups the magnitude has when it is written with 4096 groups behind the point. 16384 digits stand in those, one more
 -- than the digits of the parts, so the groups write ten times the parts. This project's own.
 use Rattle.std.specs.Prelude.{◌≡◌, ℕ, ◌*◌, ◌/◌, ◌^◌, ◌<◌, ◌≤◌, true, List, ℤ}
-use Rattle.json_model.specs.Decimal.{HasNarrowDigits}
-use Rattle.json_exact.specs.Exact.{signed}
+use Rattle.json_model.specs.Decimal.{HasNarrowDigits, signed}
 use Rattle.json_exact.specs.Digits.{joined}
 use Rattle.json_exact.specs.inner.LeadingDigits.{Keeps}
 use Rattle.json_exact.specs.declared.decimal.Decimal.TheInside.{Inside}

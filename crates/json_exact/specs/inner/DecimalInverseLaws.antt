@@ -4,7 +4,7 @@ use Rattle.std.proofs.Common.{◌≡◌, ℕ, zero, suc, ◌*◌, ◌/◌, ◌^�
 use Rattle.std.specs.Prelude.{int_lt}
 use Rattle.std.proofs.Math.Nat.{pow-suc, mul-div_cancel}
 use Rattle.std.proofs.lemmas.Bool.{le-ltb}
-use Rattle.json_exact.specs.Exact.{signed}
+use Rattle.json_model.specs.Decimal.{signed}
 use Rattle.json_exact.specs.Digits.{spread, count_of}
 use Rattle.json_exact.specs.inner.LeadingDigits.{Keeps}
 use Rattle.json_exact.specs.inner.LeadingDigitsLaws.{power_pos, from_len, len_is, digits_are}
@@ -21,11 +21,6 @@ fields_of d = record {
 pub ten_pos : (b : ℕ) → 0 < 10 ^ b
 ten_pos zero = omega arith
 ten_pos (suc b) = let h = ten_pos b in let e : 10 ^ suc b ≡ 10 ^ b * 10 = pow-suc 10 b in omega arith
-
-pub abs_signed : (m : Bool) (n : ℕ) → nat_abs (signed m n) ≡ n
-abs_signed false n = refl
-abs_signed true zero = refl
-abs_signed true (suc n) = refl
 
 pub sign_back : (m : Bool) (n : ℕ) → (m ≡ true → 0 < n) → int_lt (signed m n) (pos 0) ≡ m
 sign_back false n h = le-ltb n 0 (omega arith)

@@ -1,7 +1,6 @@
 -- The fields of a `Number`, and the decimal that they write. This project's own.
 use Rattle.std.specs.Prelude.{◌≡◌, ℕ, ◌-◌, ◌*◌, ◌/◌, ◌^◌, ◌≤◌, pos, nat_abs, int_lt}
-use Rattle.json_model.specs.Decimal.{Decimal as Written}
-use Rattle.json_exact.specs.Exact.{signed}
+use Rattle.json_model.specs.Decimal.{Decimal as Written, signed}
 use Rattle.json_exact.specs.declared.number.Number.TheInside.{Inside}
 
 -- the record that contracts see

@@ -5,8 +5,7 @@ use Rattle.std.specs.Prelude.{◌*ℤ◌, int_lt}
 use Rattle.std.proofs.Math.Nat.{mul-div_cancel}
 use Rattle.std.proofs.Math.IntN.{negsuc-*ℤ-pos}
 use Rattle.std.proofs.lemmas.Bool.{le-ltb}
-use Rattle.json_model.specs.Decimal.{Decimal as Written}
-use Rattle.json_exact.specs.Exact.{signed}
+use Rattle.json_model.specs.Decimal.{Decimal as Written, signed}
 use Rattle.json_exact.specs.inner.NumberFields.{written_with, IsWrittenWith}
 use Rattle.json_exact.specs.inner.DecimalInverseLaws.{ten_pos}
 use Rattle.json_exact.specs.declared.number.Number.TheInside.{Inside}

@@ -3,10 +3,10 @@
 use Rattle.std.specs.Prelude.{ℕ, zero, suc, ◌+◌, ◌-◌, ◌*◌, ◌/◌, ◌%◌, ◌^◌, Bool, true, false, not, ◌&&◌, List, [], ◌∷◌, length, take, drop, get_or, Option, Some, None, nat_lt, nat_le, ◌==◌, if◌then◌else◌, pos}
 use Rattle.std.specs.List.{list_all}
 use Rattle.std.specs.Int.{w16, w32, from_le_bytes}
-use Rattle.json_model.specs.Decimal.{Decimal}
+use Rattle.json_model.specs.Decimal.{Decimal, signed}
 use Rattle.json_model.specs.Tree.{Scalar, null, boolean, number, string}
 use Rattle.json_model.specs.Keys.{key_before}
-use Rattle.jsonb_layout.specs.Numeric.{short_lift, long_lift, joined, are_groups, signed}
+use Rattle.jsonb_layout.specs.Numeric.{short_lift, long_lift, joined, are_groups}
 use Rattle.jsonb_layout.specs.declared.header.Header.{Header}
 use Rattle.jsonb_layout.specs.Options.{◌>>=◌, only_if}
 use Rattle.jsonb_layout.specs.Layout.{Item, pad}

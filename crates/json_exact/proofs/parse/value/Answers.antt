@@ -1,9 +1,8 @@
 use Rattle.std.proofs.Common.{ℕ, ◌+◌, ◌-◌, ◌*◌, ◌^◌, ◌≡◌, ap, subst, ◌∙◌, arith}
 use Rattle.std.specs.Prelude.{if◌then◌else◌}
-use Rattle.json_model.specs.Decimal.{HasNarrowDigits}
-use Rattle.json_exact.specs.Exact.{signed}
+use Rattle.json_model.specs.Decimal.{HasNarrowDigits, signed}
 use Rattle.json_exact.specs.inner.LeadingDigits.{Keeps}
-use Rattle.json_exact.specs.inner.DecimalInverseLaws.{abs_signed}
+use Rattle.json_model.proofs.DecimalLaws.{abs_signed}
 use Rattle.json_exact.proofs.DigitLaws.{above_none}
 use Rattle.json_exact.proofs.FieldLaws.{keeps_of}
 use Rattle.json_exact.proofs.GroupLaws.{not_narrow}

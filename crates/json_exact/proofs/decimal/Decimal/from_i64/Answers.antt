@@ -2,7 +2,8 @@ use Rattle.std.proofs.Common.{◌*◌, ◌≡◌, ◌∙◌, ap, sym, nat_abs, �
 use Rattle.std.specs.Prelude.{int_lt}
 use mir.Val.{SFits}
 use Rattle.std.proofs.lemmas.Int.{to_z-of_z}
-use Rattle.json_exact.specs.Exact.{signed, parts}
+use Rattle.json_exact.specs.Exact.{parts}
+use Rattle.json_model.specs.Decimal.{signed}
 use Rattle.json_exact.proofs.SignLaws.{times}
 use Rattle.json_exact.proofs.MachineLaws.{few_digits, all_up}
 use Rattle.json_exact.proofs.GroupLaws.{not_wide}

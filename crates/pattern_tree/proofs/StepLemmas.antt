@@ -1,5 +1,5 @@
 -- Each step of the reader is a step of the machine.
-use Rattle.std.proofs.Common.{◌≡◌, ℕ, ◌+◌, ◌<◌, ◌≤◌, List, [], ◌∷◌, ◌++◌, length, Some, None, refl, ap, sym, ◌∙◌, subst, arith, true, false, option_map}
+use Rattle.std.proofs.Common.{◌≡◌, ℕ, ◌+◌, ◌<◌, ◌≤◌, List, [], ◌∷◌, ◌++◌, length, Some, None, refl, ap, sym, ◌∙◌, subst, arith, true, false, option_map, Bool}
 use Rattle.std.specs.Prelude.{if◌then◌else◌}
 use Rattle.pattern_tree.specs.declared.node.Node.{Node}
 use Rattle.pattern_tree.specs.declared.part.Part.{Part}
@@ -97,10 +97,16 @@ closes old new o mid id e a t b f h p le few =
       few = few;
     }
 
-repeats_on : (b : Bounds) (ts : List Tree) (p : Part) (os : List Outer) (id : ℕ) → p.last ≡ Some id → can_repeat (tree_at ts id) ≡ true →
-    step (Token.times b) (with_here os (frame_of ts p)) ≡ Some
-    (with_here os (record { done = opt_tree ts p.done; before = opt_tree ts p.before; last = Some (repeat (tree_at ts id) b) }))
-repeats_on b ts p os id e c =
+-- a quantifier leads on exactly where it may follow the last term
+repeats_if : (b : Bounds) (ts : List Tree) (p : Part) (os : List Outer) (id : ℕ) (can : Bool) → p.last ≡ Some id →
+    can_repeat (tree_at ts id) ≡ can →
+    step (Token.times b) (with_here os (frame_of ts p)) ≡ option_map (with_here os) (if can then Some (record {
+      done = opt_tree ts p.done;
+      before = opt_tree ts p.before;
+      last =
+          Some (repeat (tree_at ts id) b);
+    }) else None)
+repeats_if b ts p os id can e c =
     ap (λ z. option_map (with_here os) (repeated b (frame_of ts p) (opt_tree ts z))) e
     ∙ ap (λ z. option_map (with_here os) (if z then Some (record {
       done = opt_tree ts p.done;
@@ -112,14 +118,7 @@ repeats_on b ts p os id e c =
 pub repeats_none : (b : Bounds) (ts : List Tree) (p : Part) (os : List Outer) (id : ℕ) → p.last ≡ Some id →
     can_repeat (tree_at ts id) ≡ false →
     step (Token.times b) (with_here os (frame_of ts p)) ≡ None
-repeats_none b ts p os id e c =
-    ap (λ z. option_map (with_here os) (repeated b (frame_of ts p) (opt_tree ts z))) e
-    ∙ ap (λ z. option_map (with_here os) (if z then Some (record {
-      done = opt_tree ts p.done;
-      before = opt_tree ts p.before;
-      last =
-          Some (repeat (tree_at ts id) b);
-    }) else None)) c
+repeats_none b ts p os id e c = repeats_if b ts p os id false e c
 
 pub repeats_node : (b : Bounds) (old new : Reader) (id last : ℕ) → old.here.last ≡ Some id →
     can_repeat (tree_at (trees_of old.nodes.items) id) ≡ true →
@@ -147,7 +146,7 @@ repeats_node b old new id last e c a o t n h lt le few =
     ∙ ap (λ z. record { done = opt_tree ts old.here.done; before = opt_tree ts old.here.before; last = Some z }) t)) in
     let more : InPart (length new.nodes.items) old.here =
     in_part_more (length old.nodes.items) (length new.nodes.items) old.here le h.here in
-    goes_on (Token.times b) old new _ (repeats_on b ts old.here (outer_of ts old.outer.items) id e c) f a o h
+    goes_on (Token.times b) old new _ (repeats_if b ts old.here (outer_of ts old.outer.items) id true e c) f a o h
     (subst (λ z. InPart (length new.nodes.items) z) (sym n) (record { done = more.done; before = more.before; last = lt })) le few
 
 unfinished_more : (f : Frame) (xs : List Outer) (y : Outer) → finished f (xs ++ (y ∷ [])) ≡ None

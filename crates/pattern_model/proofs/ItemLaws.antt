@@ -1,7 +1,5 @@
 -- The items of a class stand side by side, as they are read.
 use Rattle.std.proofs.Common.{◌≡◌, ℕ, ◌+◌, true, List, [], ◌∷◌, ◌++◌, drop, length, Some, refl, ap, sym, ◌∙◌, subst, arith, inl, inr, append_assoc}
-use Rattle.std.specs.Prelude.{◌==◌}
-use Rattle.std.proofs.lemmas.Bool.Decides.{nat_tests}
 use lib.Utf8.{encodes}
 use Rattle.pattern_model.specs.Tree.{Item}
 use Rattle.pattern_model.specs.Text.{Text, is_at}

@@ -1,6 +1,6 @@
 -- A literal pattern's tree matches some part of a text exactly where its analysis hits the text.
-use Rattle.std.proofs.Common.{◌≡◌, ℕ, zero, suc, ◌+◌, ◌-◌, ◌<◌, ◌≤◌, Bool, true, false, not, List, [], ◌∷◌, ◌++◌, length, get_or, drop, Option, Some, None, refl, ap, sym, ◌∙◌, subst, arith, inl, inr, ◌⊎◌, length-append, drop-cons, length-drop, add-one}
-use Rattle.std.specs.Prelude.{slice_get, slice_index_or, ◌==◌, ◌↔◌, Contains, ⊤}
+use Rattle.std.proofs.Common.{◌≡◌, ℕ, zero, suc, ◌+◌, ◌-◌, ◌<◌, ◌≤◌, Bool, true, List, [], ◌∷◌, ◌++◌, length, get_or, drop, Some, refl, ap, sym, ◌∙◌, subst, arith, inl, inr, ◌⊎◌, length-append, drop-cons, length-drop, add-one}
+use Rattle.std.specs.Prelude.{slice_get, slice_index_or, ◌↔◌, Contains}
 use Rattle.std.proofs.lemmas.List.{append-nil, nil_from_length}
 use Rattle.std.proofs.lemmas.List.Sorted.{Contains-permutation, IsPermutation-sym}
 use Rattle.std.proofs.lemmas.Option.{slice_get-get_or, slice_get_within, get_or_from_slice_get}
@@ -8,10 +8,10 @@ use Rattle.std.proofs.lemmas.Bool.{eqb-true, eq-eqb}
 use Rattle.std.specs.List.{AllPass}
 use Rattle.std.proofs.Math.Nat.{eq-or-lt_of_le}
 use Rattle.pattern_model.specs.Text.{Text}
-use Rattle.pattern_model.specs.Tree.{Escape, Leaf, Mark, Count, Tree}
-use Rattle.pattern_model.specs.Members.{escape_has, is_space}
+use Rattle.pattern_model.specs.Tree.{Escape, Leaf, Tree}
+use Rattle.pattern_model.specs.Members.{escape_has}
 use Rattle.pattern_model.specs.Matches.{One, Times, Matches, MatchesSome}
-use Rattle.pattern_model.specs.Literals.{Literals, Analysis, IsAnalysis, Hits}
+use Rattle.pattern_model.specs.Literals.{Analysis, IsAnalysis, Hits}
 use Rattle.pattern_model.proofs.LiteralTrees.{with_codes, alternative, with_alternatives, prefix_tree, exact_tree, alternation_tree, no_whitespace_tree, HasTree, prefix_has_tree, exact_has_tree, alternation_has_tree, no_whitespace_has_tree}
 
 -- the characters stand in the text from one place to another
@@ -46,8 +46,7 @@ there : (y : Text) (i c : ℕ) (r : Text) → drop i y ≡ c ∷ r → (slice_ge
 there y i c r e =
     let long : length y - i ≡ suc (length r) = sym (length-drop i y) ∙ ap length e in
     let within : i < length y = omega arith in
-    let both : get_or y i c ∷ drop (suc i) y ≡ c ∷ r = sym (drop-cons y i c within) ∙ e in
-    (
+    let both : get_or y i c ∷ drop (suc i) y ≡ c ∷ r = sym (drop-cons y i c within) ∙ e in (
       slice_get-get_or y i c within ∙ ap (λ z. Some (get_or z 0 c)) both,
       ap (λ k. drop k y) (add-one i) ∙ ap (drop 1) both,
     )
@@ -90,11 +89,11 @@ exact_matches w y (i, j, le, (m, h, (end, last))) =
 
 pub exact_hits : (w y : Text) → Hits (Analysis.exact w) y → MatchesSome (exact_tree w) y
 exact_hits w y e = (
-    0,
-    length y,
-    omega arith,
-    (length y, stand_codes (Tree.leaf Leaf.start) w y 0 0 (length y) (refl, refl) (whole_stand w y e), (refl, refl)),
-  )
+  0,
+  length y,
+  omega arith,
+  (length y, stand_codes (Tree.leaf Leaf.start) w y 0 0 (length y) (refl, refl) (whole_stand w y e), (refl, refl)),
+)
 
 alternative_stand : (w y : Text) (i j : ℕ) → Matches (alternative w) y i j → Stand y w i j
 alternative_stand [] y i j h = h
@@ -116,8 +115,9 @@ alternatives_stand : (t : Tree) (ws : List Text) (y : Text) (i j : ℕ) → Matc
     Matches t y i j ⊎ OneStands y i j ws
 alternatives_stand t [] y i j h = inl h
 alternatives_stand t (w ∷ ws) y i j h = elim (alternatives_stand (Tree.either t (alternative w)) ws y i j h) [
-    inl g ↦ elim g [ inl a ↦ inl a | inr b ↦ inr (inl (alternative_stand w y i j b)) ]
-  | inr s ↦ inr (inr s) ]
+  | inl g ↦ elim g [ inl a ↦ inl a | inr b ↦ inr (inl (alternative_stand w y i j b)) ]
+  | inr s ↦ inr (inr s)
+]
 
 stand_alternatives : (t : Tree) (ws : List Text) (y : Text) (i j : ℕ) → Matches t y i j ⊎ OneStands y i j ws →
     Matches (with_alternatives t ws) y i j
@@ -145,15 +145,17 @@ alternation_matches w ws y (i, j, le, (m, (k, (first, at), (plain, h)), (end, la
     let whole : Matches inner y 0 (length y) =
     subst (λ p. Matches inner y p (length y)) at (subst (λ q. Matches inner y k q) end h) in
     stand_contains (w ∷ ws) y (elim (alternatives_stand (alternative w) ws y 0 (length y) whole) [
-    inl a ↦ inl (alternative_stand w y 0 (length y) a)
-  | inr s ↦ inr s ])
+      | inl a ↦ inl (alternative_stand w y 0 (length y) a)
+      | inr s ↦ inr s
+    ])
 
 pub alternation_hits : (w : Text) (ws : List Text) (y : Text) → Contains (w ∷ ws) y → MatchesSome (alternation_tree w ws) y
 alternation_hits w ws y (k, l, e) =
     let whole : Matches (with_alternatives (alternative w) ws) y 0 (length y) =
     stand_alternatives (alternative w) ws y 0 (length y) (elim (contains_stand (w ∷ ws) y k l e) [
-    inl s ↦ inl (stand_alternative w y 0 (length y) s)
-  | inr s ↦ inr s ]) in
+      | inl s ↦ inl (stand_alternative w y 0 (length y) s)
+      | inr s ↦ inr s
+    ]) in
     (0, length y, omega arith, (length y, (0, (refl, refl), (refl, whole)), (refl, refl)))
 
 -- what passes a test so many times in a row is each code point between
@@ -161,18 +163,20 @@ times_pass : (test : ℕ → Bool) (y : Text) (n i j : ℕ) → Times (λ p q. O
     (j ≡ i + n) × ((k : ℕ) (d : ℕ) → i ≤ k → k < j → test (get_or y k d) ≡ true)
 times_pass test y zero i j e = (omega (arith, e), λ k d l h. absurd (let no : i < i = omega (arith, e, l, h) in omega (arith, no)))
 times_pass test y (suc n) i j (m, (c, e, t, q), r) =
-    let (s, f) = times_pass test y n m j r in
-    (omega (arith, s, q), λ k d l h. elim (eq-or-lt_of_le l) [
-    inl same ↦ subst (λ z. test (get_or y z d) ≡ true) same (ap test (get_or_from_slice_get y i c d e) ∙ t)
-  | inr less ↦ f k d (omega (arith, less, q)) h ])
+    let (s, f) = times_pass test y n m j r in (
+      omega (arith, s, q),
+      λ k d l h. elim (eq-or-lt_of_le l) [
+        | inl same ↦ subst (λ z. test (get_or y z d) ≡ true) same (ap test (get_or_from_slice_get y i c d e) ∙ t)
+        | inr less ↦ f k d (omega (arith, less, q)) h
+      ],
+    )
 
 pass_times : (test : ℕ → Bool) (y : Text) → AllPass test y → (n i : ℕ) → i + n ≤ length y → Times (λ p q. One test y p q) n i (i + n)
 pass_times test y a zero i l = omega arith
 pass_times test y a (suc n) i l =
     let within : i < length y = omega (arith, l) in
     let more : Times (λ p q. One test y p q) n (i + 1) (i + 1 + n) = pass_times test y a n (i + 1) (omega (arith, l)) in
-    let same : i + 1 + n ≡ i + suc n = omega arith in
-    (
+    let same : i + 1 + n ≡ i + suc n = omega arith in (
       i + 1,
       (get_or y i 0, slice_get-get_or y i 0 within, a i 0 within, refl),
       subst (λ k. Times (λ p q. One test y p q) n (i + 1) k) same more,
@@ -187,9 +191,24 @@ pub no_whitespace_hits : (y : Text) → Hits Analysis.no_whitespace y → Matche
 no_whitespace_hits y a =
     let zeros : 0 + length y ≡ length y = omega arith in
     let r : Times (λ p q. One (escape_has Escape.not_space) y p q) (length y) 0 (0 + length y) =
-    pass_times (escape_has Escape.not_space) y a (length y) 0 (omega arith) in
-    (0, length y, omega arith, (length y, (0, (refl, refl), (length y, (omega arith, tt),
-    subst (λ k. Times (λ p q. One (escape_has Escape.not_space) y p q) (length y) 0 k) zeros r)), (refl, refl)))
+    pass_times (escape_has Escape.not_space) y a (length y) 0 (omega arith) in (
+      0,
+      length y,
+      omega arith,
+      (
+        length y,
+        (
+          0,
+          (refl, refl),
+          (
+            length y,
+            (omega arith, tt),
+            subst (λ k. Times (λ p q. One (escape_has Escape.not_space) y p q) (length y) 0 k) zeros r,
+          ),
+        ),
+        (refl, refl),
+      ),
+    )
 
 -- a literal pattern has a tree, which matches where its analysis hits
 pub record HasMatches (x : Text) (a : Analysis) : Type 0 where

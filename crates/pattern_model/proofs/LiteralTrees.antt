@@ -1,9 +1,8 @@
 -- Each literal pattern is a pattern: its tree, and that the text is in the ECMA grammar with it.
-use Rattle.std.proofs.Common.{◌≡◌, ℕ, Bool, true, false, not, List, [], ◌∷◌, ◌++◌, Option, Some, None, refl, ap, sym, ◌∙◌, subst, append_assoc, inl, inr, ◌⊎◌}
-use Rattle.std.specs.Prelude.{if◌then◌else◌, ◌==◌, nat_le, ◌&&◌, ◌||◌}
+use Rattle.std.proofs.Common.{◌≡◌, ℕ, Bool, true, false, List, [], ◌∷◌, ◌++◌, Some, None, refl, ap, sym, ◌∙◌, subst, append_assoc, inl, inr, ◌⊎◌}
+use Rattle.std.specs.Prelude.{if◌then◌else◌, ◌==◌, ◌&&◌, ◌||◌}
 use Rattle.std.proofs.lemmas.List.{append-nil}
 use Rattle.std.proofs.lemmas.Bool.{eqb-true}
-use Rattle.std.specs.List.{list_all}
 use Rattle.ucd_table.specs.Rows.{in_ranges, value_in}
 use Rattle.ucd_derived.specs.Binary.{is_alphabetic}
 use Rattle.ucd_derived.specs.AlphabeticRanges.{alphabetic_ranges}
@@ -15,7 +14,7 @@ use Rattle.pattern_model.specs.Escapes.{character_escape, class_escape}
 use Rattle.pattern_model.specs.Letters.{is_alphanumeric}
 use Rattle.pattern_model.specs.Quantifiers.{quantifier}
 use Rattle.pattern_model.specs.Groups.{opening}
-use Rattle.pattern_model.specs.Tokens.{escaped, token_from, Reads, Spells}
+use Rattle.pattern_model.specs.Tokens.{escaped, token_from, Reads}
 use Rattle.pattern_model.specs.SharedNames.{names, apart, disjoint}
 use Rattle.pattern_model.specs.BackReferences.{captures, numbers, references, in_number, in_names}
 use Rattle.pattern_model.specs.Grammar.{Grammar}
@@ -196,14 +195,18 @@ escaped_five c h = either (c == 47) (λ e. inl (eqb-true c 47 e)) (λ g. inr
 escaped_read : (c : ℕ) (x : Text) → is_escaped c ≡ true → token_from false 92 (c ∷ x) ≡ Some (Token.leaf (Leaf.code c), x)
 unfolding token_from escaped character_escape class_escape is_alphanumeric is_alphabetic in_ranges alphabetic_ranges general_category value_in general_category_rows
 escaped_read c x h = elim (escaped_five c h) [
-    inl e ↦ subst (λ d. token_from false 92 (d ∷ x) ≡ Some (Token.leaf (Leaf.code d), x)) (sym e) refl
+  | inl e ↦ subst (λ d. token_from false 92 (d ∷ x) ≡ Some (Token.leaf (Leaf.code d), x)) (sym e) refl
   | inr g ↦ elim g [
-    inl e ↦ subst (λ d. token_from false 92 (d ∷ x) ≡ Some (Token.leaf (Leaf.code d), x)) (sym e) refl
-  | inr g ↦ elim g [
-    inl e ↦ subst (λ d. token_from false 92 (d ∷ x) ≡ Some (Token.leaf (Leaf.code d), x)) (sym e) refl
-  | inr g ↦ elim g [
-    inl e ↦ subst (λ d. token_from false 92 (d ∷ x) ≡ Some (Token.leaf (Leaf.code d), x)) (sym e) refl
-  | inr e ↦ subst (λ d. token_from false 92 (d ∷ x) ≡ Some (Token.leaf (Leaf.code d), x)) (sym e) refl ] ] ] ]
+    | inl e ↦ subst (λ d. token_from false 92 (d ∷ x) ≡ Some (Token.leaf (Leaf.code d), x)) (sym e) refl
+    | inr g ↦ elim g [
+      | inl e ↦ subst (λ d. token_from false 92 (d ∷ x) ≡ Some (Token.leaf (Leaf.code d), x)) (sym e) refl
+      | inr g ↦ elim g [
+        | inl e ↦ subst (λ d. token_from false 92 (d ∷ x) ≡ Some (Token.leaf (Leaf.code d), x)) (sym e) refl
+        | inr e ↦ subst (λ d. token_from false 92 (d ∷ x) ≡ Some (Token.leaf (Leaf.code d), x)) (sym e) refl
+      ]
+    ]
+  ]
+]
 
 -- a literal is read as its character, literals as a row of them
 literal_read : (x : Text) (c : ℕ) (y : Text) (ts : List Token) → Literal x c y → Reads false y ts →
@@ -222,14 +225,14 @@ others_read : (x : Text) (ws : List Text) → Others x ws → Reads false x (bar
 unfolding token_from
 others_read x [] e = (41, 36 ∷ [], 36 ∷ [], e, refl, (36, [], [], refl, refl, refl))
 others_read x (w ∷ ws) (y, rest, e, l, o) = (
-    124,
-    y,
-    y,
-    e,
-    refl,
-    subst (Reads false y) (sym (append_assoc (codes_of w) (bars_of ws) close_and_end))
-    (literals_read y w rest (bars_of ws ++ close_and_end) l (others_read rest ws o)),
-  )
+  124,
+  y,
+  y,
+  e,
+  refl,
+  subst (Reads false y) (sym (append_assoc (codes_of w) (bars_of ws) close_and_end))
+      (literals_read y w rest (bars_of ws ++ close_and_end) l (others_read rest ws o)),
+)
 
 alternatives_read : (x w : Text) (ws : List Text) → Alternatives x (w ∷ ws) →
     Reads false x (tokens_of (with_alternatives (alternative w) ws) ++ close_and_end)
@@ -314,10 +317,22 @@ alternation_has_tree x y w ws e a =
     fits_alternatives (alternative w) ws (alternative_pattern (alternative w) (fits_alternative w)) in
     has_tree x (alternation_tree w ws)
     (easy_row row Leaf.end (easy_group inner (easy_alternatives (alternative w) ws (easy_alternative w))) easy_end)
-    (both (fits Level.row row) true shape refl)
-    (94, 40 ∷ y, 40 ∷ y, e, refl, (40, y, y, refl, skip (is_at 63 y) _ _ _ (no_mark y w ws a) refl,
-    subst (Reads false y) (sym (append_assoc (tokens_of inner) (Token.closes ∷ []) (Token.leaf Leaf.end ∷ [])))
-    (alternatives_read y w ws a)))
+    (both (fits Level.row row) true shape refl) (
+      94,
+      40 ∷ y,
+      40 ∷ y,
+      e,
+      refl,
+      (
+        40,
+        y,
+        y,
+        refl,
+        skip (is_at 63 y) _ _ _ (no_mark y w ws a) refl,
+        subst (Reads false y) (sym (append_assoc (tokens_of inner) (Token.closes ∷ []) (Token.leaf Leaf.end ∷ [])))
+            (alternatives_read y w ws a),
+      ),
+    )
 
 pub no_whitespace_has_tree : (x : Text) → IsAnalysis x Analysis.no_whitespace → HasTree x no_whitespace_tree
 unfolding token_from escaped class_escape quantifier

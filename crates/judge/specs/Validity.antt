@@ -103,6 +103,7 @@ TakesMemory (Least measure) v = ⊥
 TakesMemory (Greatest measure) v = ⊥
 TakesMemory Required v = IsSome (as_array v)
 
+-- reading the member's value takes memory
 abbrev pub IsCopied : List ℕ × Tree → Type 0
 IsCopied p = IsSomeAnd (keyword_of p.0) (λ w. TakesMemory w p.1)
 

@@ -1,12 +1,10 @@
 //! The values that `const` and `enum` keep, read and compared.
 
-ghost use Rattle.std.specs.Prelude.{◌≡◌, ◌↔◌, IsTrue, IfOk, IfSome, MatchResult, map};
+ghost use Rattle.std.specs.Prelude.{◌≡◌, ◌↔◌, IsTrue, IfOk, IfSome, MatchResult};
 ghost use Rattle.json_exact.specs.Trees.{tree};
-ghost use Rattle.json_model.specs.Nest.{nest};
 ghost use Rattle.json_model.specs.Same.{Same};
 ghost use Rattle.json_traits.specs.declared.value_error.ValueError.{ValueError};
 ghost use Rattle.judge.specs.Validity.{IsDeep, Suits};
-ghost use Rattle.judge.specs.Verdict.{IsOneOf};
 ghost use Rattle.judge.specs.inner.Passes.{AddFault, AreListed, IsConstant, IsListed};
 ghost use Rattle.judge.specs.declared.keyword.Keyword.TheVariants as keywords;
 

@@ -20,3 +20,4 @@ pub mod SomeVerdict
 pub mod Steps
 pub mod Texts
 pub mod TypeLists
+pub mod RequiredKeys

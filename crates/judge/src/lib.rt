@@ -48,6 +48,7 @@ mod memory;
 mod names;
 mod program;
 mod read;
+mod required;
 pub mod run_laws;
 mod status;
 mod steady;

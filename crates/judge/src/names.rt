@@ -1,18 +1,19 @@
-//! The names that `required` lists, read and looked up.
+//! The names that `required` lists, read and sought.
 
 ghost use Rattle.std.specs.Prelude.{◌≡◌, ◌∷◌, ◌++◌, [], ◌↔◌, IsTrue, IfSome, MatchResult, string_bytes};
-ghost use Rattle.json_model.specs.Parts.{as_object, pairs_of};
-ghost use Rattle.judge.specs.inner.Passes.{AddFault, AreNamesOf, HasKeys, Gains};
+ghost use Rattle.json_model.specs.Parts.{as_object};
+ghost use Rattle.judge.specs.inner.Passes.{AddFault, AreNamesOf, Gains, HasKeys};
 ghost use Rattle.judge.specs.Validity.{HasForm};
 ghost use Rattle.judge.specs.declared.keyword.Keyword.TheVariants as keywords;
 
 use crate::errors::KeywordError;
-use json_traits::{Array, Node, Object};
+use crate::required::{has_keys, put_in_key_order};
+use json_traits::{Array, Node};
 use std::alloc::Global;
 use std::collections::BTreeSet;
 
-/// The names that the value of `required` lists, each once. It takes memory for copies of them, and for a set of them while it
-/// looks for one that stands twice. Want of memory comes of a list alone.
+/// The names that the value of `required` lists, each once, in key order. It takes memory for copies of them, and for a set of
+/// them while it looks for one that stands twice. Want of memory comes of a list alone.
 pub(crate) fn read_names<'a, N: Node<'a>>(
     alloc: Global,
     value: &N,
@@ -41,6 +42,7 @@ pub(crate) fn read_names<'a, N: Node<'a>>(
             return Err(KeywordError::OutOfMemory);
         }
     }
+    put_in_key_order(&mut names);
     Ok(names)
 }
 
@@ -57,7 +59,7 @@ fn keep(alloc: Global, names: &mut Vec<String>, name: &str) -> bool
     true
 }
 
-/// Whether a value is no object, or has each of the names as a key. It looks each up: in a slice a look-up walks over the keys.
+/// Whether a value is no object, or has each of the names as a key.
 #[tactic(auto, using(json_model::proofs::KindLaws::object_some, json_model::proofs::KindLaws::object_none, json_model::proofs::KindLaws::if_object_is))]
 pub(crate) fn meets_required<'a, N: Node<'a>>(names: &Option<Vec<String>>, node: &N) -> bool
     ensures { IsTrue result
@@ -70,16 +72,4 @@ pub(crate) fn meets_required<'a, N: Node<'a>>(names: &Option<Vec<String>>, node:
         return true;
     };
     has_keys::<N>(names, &object)
-}
-
-/// Whether an object has each of the names as a key.
-fn has_keys<'a, N: Node<'a>>(names: &[String], object: &N::Object) -> bool
-    ensures { IsTrue result ↔ HasKeys names.now (pairs_of (N.Object.tree object.now)) }
-{
-    for place in 0..names.len() {
-        if object.get_named(names[place].as_str()).is_none() {
-            return false;
-        }
-    }
-    true
 }

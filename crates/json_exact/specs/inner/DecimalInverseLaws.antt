@@ -5,6 +5,7 @@ use Rattle.std.specs.Prelude.{int_lt}
 use Rattle.std.proofs.Math.Nat.{pow-suc, mul-div_cancel}
 use Rattle.std.proofs.lemmas.Bool.{le-ltb}
 use Rattle.json_model.specs.Decimal.{signed}
+use Rattle.json_model.proofs.DecimalLaws.{abs_signed}
 use Rattle.json_exact.specs.Digits.{spread, count_of}
 use Rattle.json_exact.specs.inner.LeadingDigits.{Keeps}
 use Rattle.json_exact.specs.inner.LeadingDigitsLaws.{power_pos, from_len, len_is, digits_are}

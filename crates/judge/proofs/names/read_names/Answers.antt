@@ -12,6 +12,7 @@ use Rattle.judge.specs.inner.Passes.{HasKeys}
 use Rattle.judge.specs.Verdict.{IsKeyOf}
 use Rattle.judge.specs.Validity.{AreNames}
 use Rattle.judge.proofs.NameLists.{starts, no_string, twice, goes_on, if_both, ends}
+use Rattle.judge.proofs.RequiredKeys.{in_any_order}
 use Rattle.judge.proofs.TypeLists.{of_list}
 use Rattle.judge.proofs.names.read_names.Goals as goal
 
@@ -85,9 +86,10 @@ pub returns : goal.returns
 returns g c =
     let t = g.N.HasTree.tree c.args.value.now in
     let k = length c.loop-element.yielded in
-    let e = ends (elements_of t) c.loop-element.names.items (has c.loop-element.seen) k
-    (left_end {u = c.next.new.self} (elements_of t) k c.loop-element.invariant.left c.in-None.ensures.steps) c.loop-element.invariant.collected in (
+    let e = ends (elements_of t) c.loop-element.names.items (has c.loop-element.seen) k (left_end {u = c.next.new.self} (elements_of t) k c.loop-element.invariant.left c.in-None.ensures.steps) c.loop-element.invariant.collected in
+    let sorted = c.put_in_key_order.new.names.items in (
       (of_list t AreNames c.in-Some.ensures).1 e.0,
-      λ d. if_both (as_object d) (HasKeys c.loop-element.names.items)
-          (λ ps. AllByRecursion (IsKeyOf ps) (elements_of t)) e.1,
+      λ d. if_both (as_object d) (HasKeys sorted) (λ ps. AllByRecursion (IsKeyOf ps) (elements_of t))
+          (λ ps. let moved = in_any_order c.loop-element.names.items sorted ps c.put_in_key_order.ensures in
+          let asked = e.1 ps in (λ h. asked.0 (moved.1 h), λ h. moved.0 (asked.1 h))),
     )

@@ -2,3 +2,5 @@ pub mod ValueLaws
 pub mod TextLaws
 pub mod EquivalenceLaws
 pub mod IdentityLaws
+mod UniqueLaws
+mod ConformanceLaws

@@ -1,12 +1,11 @@
 -- The values of numbers compare as what is written does.
-use Rattle.std.proofs.Common.{◌≡◌, Bool, refl, sym, subst, ◌∙◌, inl, inr, ◌⊎◌, ℤ}
+use Rattle.std.proofs.Common.{◌≡◌, Bool, refl, sym, subst, inl, inr, ◌⊎◌, ℤ}
 use Rattle.std.specs.Prelude.{◌<ℤ◌, ◌↔◌, IsTrue}
 use Rattle.std.specs.Cmp.{int_ranks, int_chain}
 use Rattle.std.specs.Int.Signed.{<ℤ_irrefl}
 use Rattle.std.specs.Ordering.{MatchOrdering, int_eq, int_cmp, is_lt, is_le, is_gt, is_ge}
 use Rattle.std.specs.declared.cmp.Ordering.{Ordering}
 use Rattle.std.specs.declared.cmp.Ordering.TheVariants.{Less, Equal, Greater}
-use Rattle.std.proofs.lemmas.Bool.Decides.{Decides-int_eq}
 use Rattle.json_model.specs.Decimal.{Decimal as Written, IsSameValue, IsBelow}
 use Rattle.json_model.specs.Tree.{Tree, scalar, number}
 use Rattle.json_exact.specs.Exact.{IsWorth, exactly, parts}

@@ -2,7 +2,8 @@
 //!
 //! [`ValueNode`], [`ValueObject`] and [`ValueArray`] borrow a `json_exact::Value`, its members or its elements, and answer the
 //! calls of `json_traits`. [`cmp`] compares values, [`numeric`] compares numbers with a limit, and [`numeric_check`] keeps a
-//! bound that is tested many times. [`laws`] says what holds of JSON equality for trees whose keys rise at each level, and that
+//! bound that is tested many times. [`conformance`] has a document that a representation of JSON is tried on, and names the first rule that
+//! a node of it breaks. [`laws`] says what holds of JSON equality for trees whose keys rise at each level, and that
 //! every value's tree is one.
 //!
 //! ```text
@@ -18,13 +19,14 @@
 //! by value, arrays place by place, and objects whatever the order of their members. The bounds are those of JSON Schema
 //! Validation 2020-12, section 6.2.
 //!
-//! [`SerdeJson`] is the representation of JSON by such values: its `prepare_key` and `string_node` alone take memory. No call
+//! [`SerdeJson`] is the representation of JSON by such values: its `prepare_key` and `string_node` take memory, and so does [`conformance`]; nothing else here does. No call
 //! answers by rounding. A value is not equal to one of another type: `1` is not `"1"`, and `null` is not `false`.
 //! `BoundOp::from_u8` refuses every byte above 3.
 #![tactic(auto)]
 
 mod array;
 pub mod cmp;
+pub mod conformance;
 mod elements;
 pub mod laws;
 mod members;

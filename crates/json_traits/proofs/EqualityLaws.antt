@@ -16,7 +16,7 @@ use Rattle.json_exact.specs.Trees.{tree as value_tree}
 use Rattle.json_exact.specs.declared.value.Value.{Value}
 use Rattle.json_exact.proofs.WorthLaws.{same_as_written}
 use Rattle.json_model.proofs.KindLaws.{if_object_is, pairs_in_from}
-use Rattle.json_traits.proofs.ShapeLaws.{array_is_made, object_is_made}
+use Rattle.json_traits.proofs.ShapeLaws.{array_is_made, array_shape, object_is_made, object_shape}
 use Rattle.json_traits.proofs.WalkLaws.{leads}
 
 -- a test of two values tells whether what is written has one value
@@ -89,3 +89,23 @@ module _ (ts us : List Tree) (i : ℕ) (left : Decide ts us i) where
   none_differs le lf =
       left.0 (subst (λ (xs : List Tree). SameElements (elements_from xs) (elements_from (drop i us))) (sym (drop_all i ts le))
       (subst (λ (xs : List Tree). SameElements (elements_from []) (elements_from xs)) (sym (drop_all i us lf)) tt))
+
+-- arrays are the same where their elements are
+pub arrays_same : (t u v w : Tree) → Some t ≡ if_array v → Some u ≡ if_array w →
+    SameElements (elements_from (elements_of t)) (elements_from (elements_of u)) ↔ Same v w
+arrays_same t u v w e f =
+    subst (λ (x : Tree). SameElements (elements_from (elements_of t)) (elements_from (elements_of u)) ↔ Same x w) (sym (array_shape t v e))
+    (subst (λ (x : Tree). SameElements (elements_from (elements_of t)) (elements_from (elements_of u))
+    ↔ Same (array (elements_from (elements_of t))) x) (sym (array_shape u w f)) (λ h. h, λ h. h))
+
+-- objects are the same where their members are
+pub objects_same : (t u v w : Tree) → Some t ≡ if_object v → Some u ≡ if_object w →
+    Same (object (members_from (pairs_of t))) (object (members_from (pairs_of u))) ↔ Same v w
+objects_same t u v w e f =
+    subst (λ (x : Tree). Same (object (members_from (pairs_of t))) (object (members_from (pairs_of u))) ↔ Same x w) (sym (object_shape t v e))
+    (subst (λ (x : Tree). Same (object (members_from (pairs_of t))) (object (members_from (pairs_of u)))
+    ↔ Same (object (members_from (pairs_of t))) x) (sym (object_shape u w f)) (λ h. h, λ h. h))
+
+-- objects that are the same have as many members
+pub pairs_counted : (ps qs : List (List ℕ × Tree)) → Same (object (members_from ps)) (object (members_from qs)) → length ps ≡ length qs
+pairs_counted ps qs s = sym (ap length (pairs_in_from ps)) ∙ s.0 ∙ ap length (pairs_in_from qs)

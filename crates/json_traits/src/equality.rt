@@ -27,14 +27,14 @@ pub(crate) fn equals<F: NodeFamily>(node: &F::Node, expected: &Value) -> bool
 }
 
 /// Whether a node is null.
-fn equals_null<F: NodeFamily>(node: &F::Node) -> bool
+pub(crate) fn equals_null<F: NodeFamily>(node: &F::Node) -> bool
     ensures { IsTrue result ↔ Same (F.Node.tree node.now) (scalar null) }
 {
     F::is_null(node)
 }
 
 /// Whether a node is a truth value.
-fn equals_boolean<F: NodeFamily>(node: &F::Node, expected: bool) -> bool
+pub(crate) fn equals_boolean<F: NodeFamily>(node: &F::Node, expected: bool) -> bool
     ensures { IsTrue result ↔ Same (F.Node.tree node.now) (scalar (boolean expected)) }
 {
     match F::as_boolean(node) {
@@ -44,7 +44,7 @@ fn equals_boolean<F: NodeFamily>(node: &F::Node, expected: bool) -> bool
 }
 
 /// Whether a node is a number of the same value, whatever fraction digits are written.
-fn equals_number<F: NodeFamily>(node: &F::Node, expected: &Number) -> bool
+pub(crate) fn equals_number<F: NodeFamily>(node: &F::Node, expected: &Number) -> bool
     ensures { IsTrue result ↔ Same (F.Node.tree node.now) (scalar (number_of expected.now)) }
 {
     match F::as_number(node) {
@@ -61,7 +61,7 @@ fn has_same_value(left: &Number, right: &Number) -> bool
 }
 
 /// Whether a node is a string.
-fn equals_string<F: NodeFamily>(node: &F::Node, expected: &str) -> bool
+pub(crate) fn equals_string<F: NodeFamily>(node: &F::Node, expected: &str) -> bool
     ensures { IsTrue result ↔ Same (F.Node.tree node.now) (scalar (string expected.now)) }
 {
     match F::as_string(node) {

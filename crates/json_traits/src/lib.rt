@@ -6,7 +6,7 @@
 //! writes `to_number` alone: its other calls answer from that. A [`NodeIdentity`] tells a node from those at other places under
 //! its root, where the representation tells places apart. [`Json`] is a representation: its nodes, its prepared keys, and the buffers
 //! of its string nodes. A function over nodes that calls itself takes a [`NodeFamily`], and [`FamilyOf`] is that of each kind of node.
-//! [`laws`] says that keys rise at each level of every node's tree.
+//! [`equal_nodes`] is JSON equality of two nodes of one kind. [`laws`] says that keys rise at each level of every node's tree.
 //!
 //! `Node::equals_value` is JSON equality with a value in memory, and `Node::to_value` a value of the node's tree, as a [`ValueCow`]: it is
 //! borrowed where the node is that of a value, and built of any other node. `TooDeep`, a [`ValueError`], is answered exactly where the
@@ -43,6 +43,7 @@ pub mod laws;
 mod lazy_instance;
 mod nesting;
 mod node;
+mod node_equality;
 mod node_family;
 mod object;
 mod rising;
@@ -58,6 +59,7 @@ pub use json::Json;
 pub use json_number::JsonNumber;
 pub use lazy_instance::LazyInstance;
 pub use node::Node;
+pub use node_equality::{equal_arrays, equal_nodes, equal_objects};
 pub use node_family::{FamilyOf, NodeFamily};
 pub use object::Object;
 pub use value_cow::ValueCow;

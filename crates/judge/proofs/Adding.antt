@@ -1,6 +1,7 @@
 -- What a compiled keyword adds to the checks.
-use Rattle.std.proofs.Common.{◌≡◌, ℕ, Option, Some, None, refl, sym, ap, ◌∙◌}
+use Rattle.std.proofs.Common.{◌≡◌, Option, Some, None, Vec, Global, refl, ap, ◌∙◌}
 use Rattle.std.specs.Prelude.{◌↔◌, IfSome, IsSome, IsSomeAnd}
+use Rattle.json_exact.specs.declared.value.Value.{Value}
 use Rattle.json_model.specs.Decimal.{Decimal}
 use Rattle.json_model.specs.Parts.{as_number}
 use Rattle.json_model.specs.Tree.{Tree}
@@ -8,13 +9,13 @@ use Rattle.json_semantics.specs.Bounds.{Keeps}
 use Rattle.json_semantics.specs.declared.numeric_check.BoundOp.{BoundOp}
 use Rattle.json_semantics.specs.declared.numeric_check.CompiledBound.{CompiledBound}
 use Rattle.judge.proofs.NameLists.{if_both}
-use Rattle.judge.specs.Passes.{Adds, HasRoom, IsBoundOf, IsFree, IsLimitOf, IsWithin, KeepsAll, Meets, Passes, bound_at, limits_at}
-use Rattle.judge.specs.Validity.{HasForm, IsCount}
+use Rattle.judge.specs.inner.Passes.{Adds, AreListed, HasRoom, IsBoundOf, IsFree, IsLimitOf, IsWithin, KeepsAll, Meets, Passes, bound_at, limits_at}
+use Rattle.judge.specs.Validity.{IsCount, Suits}
 use Rattle.judge.specs.Verdict.{Holds, IsUpTo, Reaches, count_of}
 use Rattle.judge.specs.declared.bounds.Bounds.{Bounds}
 use Rattle.judge.specs.declared.checks.Checks.{Checks}
 use Rattle.judge.specs.declared.keyword.Keyword.{Keyword}
-use Rattle.judge.specs.declared.keyword.Keyword.TheVariants.{«Type», Bound, Least, Greatest, Required}
+use Rattle.judge.specs.declared.keyword.Keyword.TheVariants.{«Type», Enum, Const, Bound, Least, Greatest, Required}
 use Rattle.judge.specs.declared.keyword.Measure.{Measure}
 use Rattle.judge.specs.declared.keyword.Measure.TheVariants.{CodePoints, Elements, Members}
 use Rattle.judge.specs.declared.limits.Limit.{Limit}
@@ -42,11 +43,13 @@ module _ (old : Checks) (v : Tree) where
       → ((o : BoundOp) → (o ≡ b.op → ⊥) → bound_at o bounds ≡ bound_at o old.bounds)
       → Adds old (Bound op) v (record old { bounds = bounds })
   adds_bound op bounds b is kept free = record {
-    form = there (as_number v) (IsBoundOf op b) is;
+    suits = record { form = there (as_number v) (IsBoundOf op b) is; not_deep = λ h. h };
     passes = λ d. (
       λ h. (let k = split d h.bounds in (
         record {
           types = h.types;
+          listed = h.listed;
+          constant = h.constant;
           bounds = k.0;
           code_points = h.code_points;
           elements = h.elements;
@@ -57,6 +60,8 @@ module _ (old : Checks) (v : Tree) where
       )),
       λ h. record {
         types = h.0.types;
+        listed = h.0.listed;
+        constant = h.0.constant;
         bounds = both d (h.0.bounds, (holds d).1 h.1);
         code_points = h.0.code_points;
         elements = h.0.elements;
@@ -100,7 +105,56 @@ module _ (old : Checks) (v : Tree) where
 
       others : (u : Keyword) → (u ≡ Bound op → ⊥) → IsFree u old → IsFree u (record old { bounds = bounds })
       others «Type» other h = h
+      others Enum other h = h
+      others Const other h = h
       others (Bound o) other h = free o (λ e. other (ap (λ (p : BoundOp). let k : Keyword = Bound p in k) (e ∙ same.1))) ∙ h
+      others (Least measure) other h = ap (λ (l : Limits). l.least) (same_limits measure) ∙ h
+      others (Greatest measure) other h = ap (λ (l : Limits). l.greatest) (same_limits measure) ∙ h
+      others Required other h = h
+
+  -- a list of values that was kept
+  pub adds_listed : (values : Vec Value Global) → IsFree Enum old → Suits Enum v → AreListed v values.items
+      → Adds old Enum v (record old { listed = Some values })
+  adds_listed values free suits is = record {
+    suits = suits;
+    passes = λ d. (
+      λ h. (
+        record {
+          types = h.types;
+          listed = rw free tt;
+          constant = h.constant;
+          bounds = h.bounds;
+          code_points = h.code_points;
+          elements = h.elements;
+          members = h.members;
+          required = h.required;
+        },
+        (is d).0 h.listed,
+      ),
+      λ h. record {
+        types = h.0.types;
+        listed = (is d).1 h.1;
+        constant = h.0.constant;
+        bounds = h.0.bounds;
+        code_points = h.0.code_points;
+        elements = h.0.elements;
+        members = h.0.members;
+        required = h.0.required;
+      },
+    );
+    frees = others;
+  }
+    where
+      same_limits : (measure : Measure) → limits_at measure (record old { listed = Some values }) ≡ limits_at measure old
+      same_limits CodePoints = refl
+      same_limits Elements = refl
+      same_limits Members = refl
+
+      others : (u : Keyword) → (u ≡ Enum → ⊥) → IsFree u old → IsFree u (record old { listed = Some values })
+      others «Type» other h = h
+      others Enum other h = absurd (other refl)
+      others Const other h = h
+      others (Bound o) other h = h
       others (Least measure) other h = ap (λ (l : Limits). l.least) (same_limits measure) ∙ h
       others (Greatest measure) other h = ap (λ (l : Limits). l.greatest) (same_limits measure) ∙ h
       others Required other h = h
@@ -113,26 +167,28 @@ module _ (old : Checks) (v : Tree) where
     pub adds_least : ((d : Tree) → Passes new d ↔ (Passes old d × IfSome (count_of measure d) (Meets limit)))
         → ((u : Keyword) → (u ≡ Least measure → ⊥) → IsFree u old → IsFree u new) → Adds old (Least measure) v new
     adds_least passes frees = record {
-      form = form;
+      suits = record { form = form; not_deep = λ h. h };
       passes = λ d. (λ h. (let p = (passes d).0 h in (p.0, (holds d).0 p.1)), λ h. (passes d).1 (h.0, (holds d).1 h.1));
       frees = frees;
     }
       where
         holds : (d : Tree) → IfSome (count_of measure d) (Meets limit) ↔ Holds (Least measure) v d
         holds d = asked (as_number v) (IfSome (count_of measure d) (Meets limit)) (λ m. IfSome (count_of measure d) (Reaches m))
-            (there_and (as_number v) (λ m. IsCount m × IsLimitOf limit m) (λ m. IfSome (count_of measure d) (Meets limit) ↔ IfSome (count_of measure d) (Reaches m))
+            (there_and (as_number v) (λ m. IsCount m × IsLimitOf limit m)
+            (λ m. IfSome (count_of measure d) (Meets limit) ↔ IfSome (count_of measure d) (Reaches m))
             (λ m h. if_both (count_of measure d) (Meets limit) (Reaches m) (λ n. (h.1 n).0)) is)
 
     -- a greatest count that was set
     pub adds_greatest : ((d : Tree) → Passes new d ↔ (Passes old d × IfSome (count_of measure d) (HasRoom limit)))
         → ((u : Keyword) → (u ≡ Greatest measure → ⊥) → IsFree u old → IsFree u new) → Adds old (Greatest measure) v new
     adds_greatest passes frees = record {
-      form = form;
+      suits = record { form = form; not_deep = λ h. h };
       passes = λ d. (λ h. (let p = (passes d).0 h in (p.0, (holds d).0 p.1)), λ h. (passes d).1 (h.0, (holds d).1 h.1));
       frees = frees;
     }
       where
         holds : (d : Tree) → IfSome (count_of measure d) (HasRoom limit) ↔ Holds (Greatest measure) v d
         holds d = asked (as_number v) (IfSome (count_of measure d) (HasRoom limit)) (λ m. IfSome (count_of measure d) (IsUpTo m))
-            (there_and (as_number v) (λ m. IsCount m × IsLimitOf limit m) (λ m. IfSome (count_of measure d) (HasRoom limit) ↔ IfSome (count_of measure d) (IsUpTo m))
+            (there_and (as_number v) (λ m. IsCount m × IsLimitOf limit m)
+            (λ m. IfSome (count_of measure d) (HasRoom limit) ↔ IfSome (count_of measure d) (IsUpTo m))
             (λ m h. if_both (count_of measure d) (HasRoom limit) (IsUpTo m) (λ n. (h.1 n).1)) is)

@@ -9,9 +9,10 @@ use Rattle.jsonb_layout.specs.Stands.{Stands}
 use Rattle.jsonb.specs.Root.{IsRead}
 use Rattle.jsonb.specs.declared.error.JsonbError.{JsonbError}
 use Rattle.jsonb.specs.declared.error.JsonbError.TheVariants as read
-use Rattle.judge.specs.Passes.{Passes, IsCompiled, HasThisFault}
+use Rattle.judge.specs.Compiled.{IsCompiled, HasThisFault}
+use Rattle.judge.specs.inner.Passes.{Passes}
 use Rattle.judge.specs.Right.{Answer, Right, keywords_error, document_error, keyword_error}
-use Rattle.judge.specs.Validity.{IsValid}
+use Rattle.judge.specs.Validity.{IsLean, IsValid}
 use Rattle.judge.specs.declared.checks.Checks.{Checks}
 use Rattle.judge.specs.declared.errors.JudgeError.{JudgeError}
 use Rattle.judge.specs.declared.errors.JudgeError.TheVariants as judged
@@ -46,7 +47,8 @@ module _ {X : Type 0} (k d : List ℕ) where
         go (inl h) = absurd cc
         go (inr h) = h
 
-    pub keyword_refused : (e : KeywordError) (x : JudgeError) → x ≡ keyword_error e → (◌≡◌ {A = Result Checks KeywordError} (Err e) (Err keyword.OutOfMemory)) ⊎ HasThisFault t e → Answers k d (Err x)
+    pub keyword_refused : (e : KeywordError) (x : JudgeError) → x ≡ keyword_error e
+        → (◌≡◌ {A = Result Checks KeywordError} (Err e) (Err keyword.OutOfMemory)) ⊎ HasThisFault t e → Answers k d (Err x)
     unfolding Right
     keyword_refused e x is (inl h) = inl (ap err (is ∙ ap keyword_error (err_is e keyword.OutOfMemory h)))
     keyword_refused e x is (inr fault) = inr (Ok t, reads, (Some e, fault, ap err is))
@@ -55,14 +57,19 @@ module _ {X : Type 0} (k d : List ℕ) where
     memory_alone keyword.NotAnObject h = absurd cc
     memory_alone (keyword.UnknownKeyword m) h = absurd cc
     memory_alone (keyword.BadKeyword m) h = absurd cc
+    memory_alone (keyword.TooDeep m) h = absurd cc
     memory_alone keyword.Unbuilt h = absurd cc
     memory_alone keyword.OutOfMemory h = refl
 
-    pub keyword_refused_with_memory : (e : KeywordError) (x : JudgeError) → x ≡ keyword_error e → (nest t ≤ 1 → ◌≡◌ {A = Result Checks KeywordError} (Err e) (Err keyword.OutOfMemory) → ⊥) → (u : Tree) → Stands k u → nest u ≤ 1 → ◌≡◌ {A = Answer} (Err x) (Err judged.OutOfMemory) → ⊥
-    keyword_refused_with_memory e x is free u stands le h =
+    -- where the keywords are refused and nest at most one level, without `const`, it is not for want of memory
+    pub keyword_refused_with_memory : (e : KeywordError) (x : JudgeError) → x ≡ keyword_error e
+        → (nest t ≤ 1 → IsLean t → ◌≡◌ {A = Result Checks KeywordError} (Err e) (Err keyword.OutOfMemory) → ⊥)
+        → (u : Tree) → Stands k u → nest u ≤ 1 → IsLean u → ◌≡◌ {A = Answer} (Err x) (Err judged.OutOfMemory) → ⊥
+    keyword_refused_with_memory e x is free u stands le lean h =
         let same : t ≡ u = one_tree k t u reads.0 stands in
         let only : e ≡ keyword.OutOfMemory = memory_alone e (sym is ∙ err_is x judged.OutOfMemory h) in
-        free (subst (λ (v : Tree). nest v ≤ 1) (sym same) le) (ap (λ (y : KeywordError). let r : Result Checks KeywordError = Err y in r) only)
+        free (subst (λ (v : Tree). nest v ≤ 1) (sym same) le) (subst IsLean (sym same) lean)
+        (ap (λ (y : KeywordError). let r : Result Checks KeywordError = Err y in r) only)
 
     module _ (c : Checks) (said_so : (◌≡◌ {A = Result Checks KeywordError} (Ok c) (Err keyword.OutOfMemory)) ⊎ IsCompiled t c) where
       compiled : IsCompiled t c
@@ -84,4 +91,5 @@ module _ {X : Type 0} (k d : List ℕ) where
       pub verdict : (other : X) (u : Tree) (b : Bool) → Said {X = X} d (Ok other) (Ok u) → (IsTrue b ↔ Passes c u) → Answers k d (Ok b)
       unfolding Right
       verdict other u b (inl h) is = absurd cc
-      verdict other u b (inr h) is = inr (Ok t, reads, (None, compiled.valid, (Ok u, h, (b, refl, (λ x. (compiled.passes u).0 (is.0 x), λ x. is.1 ((compiled.passes u).1 x))))))
+      verdict other u b (inr h) is =
+          inr (Ok t, reads, (None, compiled.valid, (Ok u, h, (b, refl, (λ x. (compiled.passes u).0 (is.0 x), λ x. is.1 ((compiled.passes u).1 x))))))

@@ -19,7 +19,7 @@ use Rattle.json_semantics.specs.declared.numeric_check.BoundOp.{BoundOp}
 use Rattle.json_semantics.specs.declared.numeric_check.BoundOp.TheVariants.{Lt, Lte, Gt, Gte}
 use Rattle.json_semantics.specs.declared.numeric_check.CompiledBound.{CompiledBound}
 use Rattle.json_traits.specs.Numbers.{whole}
-use Rattle.judge.specs.Passes.{IsBoundOf, IsLimitOf}
+use Rattle.judge.specs.inner.Passes.{IsBoundOf, IsLimitOf}
 use Rattle.judge.specs.declared.limits.Limit.TheVariants.{Small, Large}
 use Rattle.judge.specs.Validity.{IsCount}
 use Rattle.judge.specs.Verdict.{Reaches, IsUpTo}
@@ -67,7 +67,8 @@ limit_below d m x f =
           (subst (λ (z : ℤ). z <ℤ ((x.digits *ℤ pos p) *ℤ pos parts)) left (subst (λ (z : ℤ). ((d *ℤ pos q) *ℤ pos p) <ℤ z) right
           (up (d *ℤ pos q) (x.digits *ℤ pos parts) p (ten_pos m.places) h))),
       λ h. down (d *ℤ pos q) (x.digits *ℤ pos parts) p (ten_pos m.places)
-          (subst (λ (z : ℤ). z <ℤ ((x.digits *ℤ pos parts) *ℤ pos p)) (sym left) (subst (λ (z : ℤ). ((m.digits *ℤ pos q) *ℤ pos parts) <ℤ z) (sym right)
+          (subst (λ (z : ℤ). z <ℤ ((x.digits *ℤ pos parts) *ℤ pos p)) (sym left)
+          (subst (λ (z : ℤ). ((m.digits *ℤ pos q) *ℤ pos parts) <ℤ z) (sym right)
           (up (m.digits *ℤ pos q) (x.digits *ℤ pos p) parts parts_pos h))),
     )
 

@@ -1,24 +1,24 @@
 -- What compiling keeps from member to member.
-use Rattle.std.proofs.Common.{arith, ◌≡◌, ℕ, zero, suc, ◌+◌, ◌<◌, ◌≤◌, ◌⊎◌, inl, inr, List, [], ◌∷◌, ◌++◌, length, take, map, Option, Some, None, Bool, true, false, cond, refl, sym, ap, ◌∙◌, subst, take_all}
-use Rattle.std.specs.Prelude.{codes, slice_get, IsSome, ◌↔◌, Result, Err}
+use Rattle.std.proofs.Common.{arith, ◌≡◌, ℕ, zero, suc, ◌+◌, ◌<◌, ◌≤◌, ◌⊎◌, inl, inr, List, [], ◌∷◌, ◌++◌, length, take, map, Option, Some, None, true, refl, sym, ap, ◌∙◌, subst, take_all}
+use Rattle.std.specs.Prelude.{slice_get, IsSome, IsSomeAnd, ◌↔◌, Result, Err}
 use Rattle.std.specs.List.{AllByRecursion}
 use Rattle.std.proofs.lemmas.Option.{slice_get_past}
-use Rattle.std.proofs.lemmas.Slice.Eq.{bytes_eq-Decides}
 use Rattle.json_model.specs.Nest.{nest, nest_members}
 use Rattle.json_model.specs.Tree.{Tree, scalar, array, object, Members, no_members, member}
 use Rattle.json_model.specs.Parts.{pairs_of, pairs_in, as_array, as_object}
 use Rattle.json_model.specs.Keys.{key_before, rises}
 use Rattle.json_traits.proofs.GivesLaws.{AtItem}
 use Rattle.judge.specs.Names.{keyword_of}
-use Rattle.judge.specs.Passes.{Passes, IsFree, Adds, Took, AddFault, IsFault, IsCompiled, HasThisFault}
-use Rattle.judge.specs.Validity.{IsFair, IsFirst, IsUnknown, IsUnbuilt, IsBad, ListsNames}
+use Rattle.judge.specs.Compiled.{IsFault, IsCompiled, HasThisFault}
+use Rattle.judge.specs.inner.Passes.{Passes, IsFree, Adds, Took, AddFault}
+use Rattle.judge.specs.Validity.{IsBad, IsCopied, IsFair, IsFirst, IsLean, IsTooDeep, IsUnbuilt, IsUnknown, TakesMemory}
 use Rattle.judge.specs.Verdict.{Holds, HoldsAt}
 use Rattle.judge.specs.declared.checks.Checks.{Checks}
 use Rattle.judge.specs.declared.errors.KeywordError.{KeywordError}
-use Rattle.judge.specs.declared.errors.KeywordError.TheVariants.{NotAnObject, UnknownKeyword, BadKeyword, Unbuilt, OutOfMemory}
+use Rattle.judge.specs.declared.errors.KeywordError.TheVariants.{NotAnObject, UnknownKeyword, BadKeyword, TooDeep, Unbuilt, OutOfMemory}
 use Rattle.judge.specs.declared.keyword.Keyword.{Keyword}
 use Rattle.judge.proofs.KeywordNames.{one_name}
-use Rattle.judge.specs.declared.keyword.Keyword.TheVariants.{Required}
+use Rattle.judge.specs.declared.keyword.Keyword.TheVariants.{«Type», Enum, Const, Bound, Least, Greatest, Required}
 use Rattle.json_model.proofs.KeyOrderLaws.{rises_all, rises_tail, not_before}
 
 abbrev pub Pair : Type 0
@@ -42,10 +42,12 @@ at_place P (x ∷ xs) zero p h e = let s : x ≡ p = cc in subst (λ (q : Pair).
 at_place P (x ∷ xs) (suc k) p h e = at_place P xs k p h.1 e
 
 -- no key before place k has the keyword of the key there
-new_key : (ps : List Pair) (k : ℕ) (p : Pair) (w : Keyword) → rises (map (λ (q : Pair). q.0) ps) ≡ true → AtItem ps k p → keyword_of p.0 ≡ Some w → AllByRecursion (λ (q : Pair). keyword_of q.0 ≡ Some w → ⊥) (take k ps)
+new_key : (ps : List Pair) (k : ℕ) (p : Pair) (w : Keyword) → rises (map (λ (q : Pair). q.0) ps) ≡ true → AtItem ps k p
+    → keyword_of p.0 ≡ Some w → AllByRecursion (λ (q : Pair). keyword_of q.0 ≡ Some w → ⊥) (take k ps)
 new_key ps k p w h at e = go ps k h at.here
   where
-    go : (ps : List Pair) (k : ℕ) → rises (map (λ (q : Pair). q.0) ps) ≡ true → slice_get ps k ≡ Some p → AllByRecursion (λ (q : Pair). keyword_of q.0 ≡ Some w → ⊥) (take k ps)
+    go : (ps : List Pair) (k : ℕ) → rises (map (λ (q : Pair). q.0) ps) ≡ true → slice_get ps k ≡ Some p
+        → AllByRecursion (λ (q : Pair). keyword_of q.0 ≡ Some w → ⊥) (take k ps)
     go [] zero h is = tt
     go [] (suc k) h is = tt
     go (x ∷ xs) zero h is = tt
@@ -59,7 +61,7 @@ new_key ps k p w h at e = go ps k h at.here
 
 pub added : (old new : Checks) (w : Keyword) (p : Pair) → keyword_of p.0 ≡ Some w → Adds old w p.1 new → Took old p new
 added old new w p e a = record {
-  fair = rw e a.form;
+  fair = rw e a.suits;
   passes = λ d. (λ h. let r = (a.passes d).0 h in (r.0, rw e r.1), λ h. (a.passes d).1 (h.0, hold d h.1));
   frees = λ u other free. a.frees u (λ same. other (e ∙ ap (λ (v : Keyword). let o : Option Keyword = Some v in o) (sym same))) free;
 }
@@ -71,8 +73,9 @@ pub refused : (m : ℕ) (w : Keyword) (p : Pair) (e : KeywordError) → keyword_
 refused m w p NotAnObject is f = f
 refused m w p (UnknownKeyword n) is f = absurd f
 refused m w p (BadKeyword n) is f = (f.0, rw is f.1)
+refused m w p (TooDeep n) is f = (f.0, rw is (f.1, f.2))
 refused m w p Unbuilt is f = absurd f
-refused m w p OutOfMemory is f = (is ∙ ap (λ (v : Keyword). let o : Option Keyword = Some v in o) f.0, f.1)
+refused m w p OutOfMemory is f = rw is f
 
 -- ---- all members
 
@@ -92,6 +95,22 @@ list_nests (scalar x) h = absurd cc
 list_nests (array ts) h = omega arith
 list_nests (object ms) h = absurd cc
 
+-- but for `const`, a keyword takes memory for a list alone
+list_alone : (w : Keyword) (v : Tree) → (w ≡ Const → ⊥) → TakesMemory w v → 1 ≤ nest v
+list_alone «Type» v other h = absurd h
+list_alone Enum v other h = list_nests v h
+list_alone Const v other h = absurd (other refl)
+list_alone (Bound op) v other h = absurd h
+list_alone (Least measure) v other h = absurd h
+list_alone (Greatest measure) v other h = absurd h
+list_alone Required v other h = list_nests v h
+
+-- what holds of all holds at a place
+pub at_each : (P : Pair → Type 0) (ps : List Pair) (k : ℕ) (p : Pair) → AllByRecursion P ps → slice_get ps k ≡ Some p → P p
+at_each P [] k p h e = absurd (let z : None ≡ Some p = sym (slice_get_past [] k (omega arith)) ∙ e in cc)
+at_each P (x ∷ xs) zero p h e = let s : x ≡ p = cc in subst P s h.0
+at_each P (x ∷ xs) (suc k) p h e = at_each P xs k p h.1 e
+
 -- the first k pairs of t were taken in
 pub record Walked (t : Tree) (checks : Checks) (k : ℕ) : Type 0 where
   pub object : IsSome (as_object t)
@@ -100,7 +119,8 @@ pub record Walked (t : Tree) (checks : Checks) (k : ℕ) : Type 0 where
   pub passes : (d : Tree) → Passes checks d ↔ AllByRecursion (HoldsAt d) (take k (pairs_of t))
   pub free : (w : Keyword) → AllByRecursion (λ (q : Pair). keyword_of q.0 ≡ Some w → ⊥) (take k (pairs_of t)) → IsFree w checks
 
-pub starts : (t : Tree) (checks : Checks) → IsSome (as_object t) → rises (map (λ (q : Pair). q.0) (pairs_of t)) ≡ true → ((d : Tree) → Passes checks d) → ((w : Keyword) → IsFree w checks) → Walked t checks 0
+pub starts : (t : Tree) (checks : Checks) → IsSome (as_object t) → rises (map (λ (q : Pair). q.0) (pairs_of t)) ≡ true
+    → ((d : Tree) → Passes checks d) → ((w : Keyword) → IsFree w checks) → Walked t checks 0
 starts t checks is_object rise passes free = record {
   object = is_object;
   rise = rise;
@@ -122,7 +142,8 @@ module _ (t : Tree) (checks : Checks) (k : ℕ) (p : Pair) (at : AtItem (pairs_o
       λ h. (let q = (took.passes d).0 h in all_snoc (HoldsAt d) (take k (pairs_of t)) p ((s.passes d).0 q.0) q.1),
       λ h. (let q = all_front (HoldsAt d) (take k (pairs_of t)) p h in (took.passes d).1 ((s.passes d).1 q.0, q.1)),
     );
-    free = λ w. rw at.front (λ h. let q = all_front (λ (q : Pair). keyword_of q.0 ≡ Some w → ⊥) (take k (pairs_of t)) p h in took.frees w q.1 (s.free w q.0));
+    free = λ w. rw at.front (λ h. let q = all_front (λ (q : Pair). keyword_of q.0 ≡ Some w → ⊥) (take k (pairs_of t)) p h in
+        took.frees w q.1 (s.free w q.0));
   }
 
   first_here : (P : Pair → Type 0) → P p → IsFirst t k P
@@ -132,24 +153,37 @@ module _ (t : Tree) (checks : Checks) (k : ℕ) (p : Pair) (at : AtItem (pairs_o
   stops m NotAnObject is f = absurd f
   stops m (UnknownKeyword n) is f = inr (subst (λ (i : ℕ). IsFirst t i IsUnknown) (sym (f.0 ∙ is)) (first_here IsUnknown f.1))
   stops m (BadKeyword n) is f = inr (subst (λ (i : ℕ). IsFirst t i IsBad) (sym (f.0 ∙ is)) (first_here IsBad f.1))
+  stops m (TooDeep n) is f = inr (subst (λ (i : ℕ). IsFirst t i IsTooDeep) (sym (f.0 ∙ is)) (first_here IsTooDeep f.1))
   stops m Unbuilt is f = inr (k, first_here IsUnbuilt f)
   stops m OutOfMemory is f = inl refl
 
-  -- memory is wanting only where names are listed, and no member before has a fault
-  pub stops_at_names : (m : ℕ) (e : KeywordError) → IsFault m p e → ◌≡◌ {A = Result Checks KeywordError} (Err e) (Err OutOfMemory) → (i : ℕ) × IsFirst t i ListsNames
-  stops_at_names m NotAnObject f h = absurd cc
-  stops_at_names m (UnknownKeyword n) f h = absurd cc
-  stops_at_names m (BadKeyword n) f h = absurd cc
-  stops_at_names m Unbuilt f h = absurd cc
-  stops_at_names m OutOfMemory f h = (k, first_here ListsNames f)
+  -- memory is wanting only where a value is copied, and no member before has a fault
+  pub stops_at_copied : (m : ℕ) (e : KeywordError) → IsFault m p e
+      → ◌≡◌ {A = Result Checks KeywordError} (Err e) (Err OutOfMemory) → (i : ℕ) × IsFirst t i IsCopied
+  stops_at_copied m NotAnObject f h = absurd cc
+  stops_at_copied m (UnknownKeyword n) f h = absurd cc
+  stops_at_copied m (BadKeyword n) f h = absurd cc
+  stops_at_copied m (TooDeep n) f h = absurd cc
+  stops_at_copied m Unbuilt f h = absurd cc
+  stops_at_copied m OutOfMemory f h = (k, first_here IsCopied f)
 
-  -- so it never is where no value is a container
-  pub stops_with_memory : (m : ℕ) (e : KeywordError) → IsFault m p e → nest t ≤ 1 → ◌≡◌ {A = Result Checks KeywordError} (Err e) (Err OutOfMemory) → ⊥
-  stops_with_memory m NotAnObject f le h = cc
-  stops_with_memory m (UnknownKeyword n) f le h = cc
-  stops_with_memory m (BadKeyword n) f le h = cc
-  stops_with_memory m Unbuilt f le h = cc
-  stops_with_memory m OutOfMemory f le h = let lt = value_nests t k p at.here in let some = list_nests p.1 f.1 in omega arith
+  -- so it never is where no value is a container, and none is that of `const`
+  pub stops_with_memory : (m : ℕ) (e : KeywordError) → IsFault m p e → nest t ≤ 1 → IsLean t
+      → ◌≡◌ {A = Result Checks KeywordError} (Err e) (Err OutOfMemory) → ⊥
+  stops_with_memory m NotAnObject f le lean h = cc
+  stops_with_memory m (UnknownKeyword n) f le lean h = cc
+  stops_with_memory m (BadKeyword n) f le lean h = cc
+  stops_with_memory m (TooDeep n) f le lean h = cc
+  stops_with_memory m Unbuilt f le lean h = cc
+  stops_with_memory m OutOfMemory f le lean h = go (keyword_of p.0) refl f
+    where
+      go : (o : Option Keyword) → keyword_of p.0 ≡ o → IsSomeAnd o (λ w. TakesMemory w p.1) → ⊥
+      go None e c = c
+      go (Some w) e c =
+          let never = at_each (λ (q : Pair). keyword_of q.0 ≡ Some Const → ⊥) (pairs_of t) k p lean at.here in
+          let lt = value_nests t k p at.here in
+          let some = list_alone w p.1 (λ is. never (e ∙ ap (λ (v : Keyword). let o : Option Keyword = Some v in o) is)) c in
+          omega arith
 
 pub ends : (t : Tree) (checks : Checks) (k : ℕ) → length (pairs_of t) ≤ k → Walked t checks k → IsCompiled t checks
 ends t checks k le s =

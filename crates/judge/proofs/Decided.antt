@@ -1,12 +1,16 @@
--- What is decided: it holds, or it does not. Of lists and options of what is decided, of byte lists, of the seven types and
--- of decimals.
-use Rattle.std.proofs.Common.{◌≡◌, ◌⊎◌, inl, inr, ℕ, ◌*◌, ◌/◌, ◌^◌, ◌<◌, List, [], ◌∷◌, length, Bool, true, false, Option, Some, None, refl, sym, ap, ◌∙◌, arith, ℤ, pos, nat_abs}
-use Rattle.std.specs.Prelude.{◌↔◌, ◌*ℤ◌, IsTrue, IsSome, IfSome, IsSomeAnd, bytes_eq, int_lt, is_some}
-use Rattle.std.specs.Int.Signed.{clash_ℤ}
+-- What is decided: it holds, or it does not. Of lists and options of what is decided, of numbers, of byte lists, of the seven
+-- types and of decimals.
+use Rattle.std.proofs.Common.{◌≡◌, ◌⊎◌, inl, inr, ℕ, ◌*◌, ◌/◌, ◌^◌, ◌<◌, List, [], ◌∷◌, length, Bool, true, false, Option, Some, None, refl, sym, ap, subst, ◌∙◌, arith, ℤ, pos, nat_abs}
+use Rattle.std.specs.Prelude.{◌↔◌, ◌*ℤ◌, ◌<ℤ◌, IsTrue, IsSome, IfSome, IsSomeAnd, bytes_eq, int_lt, is_some}
+use Rattle.std.specs.Cmp.{int_ranks}
+use Rattle.std.specs.Int.Signed.{<ℤ_irrefl, clash_ℤ}
 use Rattle.std.specs.List.{AllByRecursion}
+use Rattle.std.specs.Ordering.{MatchOrdering, int_cmp}
+use Rattle.std.specs.declared.cmp.Ordering.{Ordering}
+use Rattle.std.specs.declared.cmp.Ordering.TheVariants.{Less, Equal, Greater}
 use Rattle.std.proofs.Math.Nat.{mul-div_cancel}
 use Rattle.std.proofs.lemmas.Bool.{false≢true}
-use Rattle.std.proofs.lemmas.Bool.Decides.{eqb_tells}
+use Rattle.std.proofs.lemmas.Bool.Decides.{eqb_tells, leb_tells}
 use Rattle.std.proofs.lemmas.Int.{by_lt_z}
 use Rattle.std.proofs.lemmas.Slice.Eq.{bytes_eq-Decides}
 use Rattle.json_exact.proofs.SignLaws.{abs_times}
@@ -65,6 +69,28 @@ pub decided_filled : {A : Type 0} (xs : List A) → Decided (0 < length xs)
 decided_filled [] = inr (λ h. omega (arith, h))
 decided_filled (x ∷ xs) = inl (omega arith)
 
+-- ---- numbers
+
+pub decided_less : (a b : ℕ) → Decided (a < b)
+decided_less a b = elim (leb_tells b a) [ inl within ↦ inr (λ lt. let le = within.1 in omega arith) | inr past ↦ inl past.1 ]
+
+pub same_integers : (x y : ℤ) → Decided (x ≡ y)
+same_integers x y = go (int_cmp x y) (int_ranks x y)
+  where
+    go : (o : Ordering) → MatchOrdering o (x <ℤ y) (x ≡ y) (y <ℤ x) → Decided (x ≡ y)
+    go Less l = inr (λ e. <ℤ_irrefl (subst (λ (z : ℤ). x <ℤ z) (sym e) l))
+    go Equal e = inl e
+    go Greater g = inr (λ e. <ℤ_irrefl (subst (λ (z : ℤ). y <ℤ z) e g))
+
+pub same_counts : (a b : ℕ) → Decided (a ≡ b)
+same_counts a b = elim (eqb_tells a b) [ inl hit ↦ inl hit.1 | inr miss ↦ inr miss.1 ]
+
+pub same_truths : (a b : Bool) → Decided (a ≡ b)
+same_truths true true = inl refl
+same_truths true false = inr (λ e. cc)
+same_truths false true = inr (λ e. cc)
+same_truths false false = inl refl
+
 -- ---- byte lists
 
 pub same_bytes : (a b : List ℕ) → Decided (a ≡ b)
@@ -93,7 +119,8 @@ same_type t u = go (same t u) refl
     go false e = inr (λ i. false≢true (sym e ∙ sym (ap (same t) i) ∙ same_refl t))
 
 module _ (P : JsonType → Type 0) where
-  none_of : (P Null → ⊥) → (P Boolean → ⊥) → (P Integer → ⊥) → (P Number → ⊥) → (P String → ⊥) → (P Array → ⊥) → (P Object → ⊥) → (t : JsonType) → P t → ⊥
+  none_of : (P Null → ⊥) → (P Boolean → ⊥) → (P Integer → ⊥) → (P Number → ⊥) → (P String → ⊥) → (P Array → ⊥) → (P Object → ⊥)
+      → (t : JsonType) → P t → ⊥
   none_of a b c d e f g Null h = a h
   none_of a b c d e f g Boolean h = b h
   none_of a b c d e f g Integer h = c h
@@ -103,7 +130,8 @@ module _ (P : JsonType → Type 0) where
   none_of a b c d e f g Object h = g h
 
   -- some type is P, or none is
-  by_seven : Decided (P Null) → Decided (P Boolean) → Decided (P Integer) → Decided (P Number) → Decided (P String) → Decided (P Array) → Decided (P Object) → Decided ((t : JsonType) × P t)
+  by_seven : Decided (P Null) → Decided (P Boolean) → Decided (P Integer) → Decided (P Number) → Decided (P String)
+      → Decided (P Array) → Decided (P Object) → Decided ((t : JsonType) × P t)
   by_seven (inl p) b c d e f g = inl (Null, p)
   by_seven (inr a) (inl p) c d e f g = inl (Boolean, p)
   by_seven (inr a) (inr b) (inl p) d e f g = inl (Integer, p)
@@ -129,6 +157,9 @@ quotient_is d k p some e =
 
 pub decided_whole : (a : Decimal) → Decided (IsWhole a)
 decided_whole a = elim (eqb_tells (nat_abs a.digits) (nat_abs a.digits / 10 ^ a.places * 10 ^ a.places)) [
-  | inl hit ↦ inl (signed (int_lt a.digits (pos 0)) (nat_abs a.digits / 10 ^ a.places), sym (divided_times a.digits (nat_abs a.digits / 10 ^ a.places) (10 ^ a.places) (ten_pos a.places) hit.1))
+  | inl hit ↦ inl (
+    signed (int_lt a.digits (pos 0)) (nat_abs a.digits / 10 ^ a.places),
+    sym (divided_times a.digits (nat_abs a.digits / 10 ^ a.places) (10 ^ a.places) (ten_pos a.places) hit.1),
+  )
   | inr miss ↦ inr (λ h. miss.1 (quotient_is a.digits h.0 (10 ^ a.places) (ten_pos a.places) h.1))
 ]

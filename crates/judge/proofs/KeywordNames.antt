@@ -1,5 +1,5 @@
 -- Each keyword has one name.
-use Rattle.std.proofs.Common.{rules, ◌≡◌, ℕ, ◌+◌, List, [], ◌∷◌, Bool, true, false, not, ◌&&◌, ◌||◌, nat_eq, Option, Some, None, refl, sym, ap, subst, ◌∙◌}
+use Rattle.std.proofs.Common.{rules, ◌≡◌, ℕ, ◌+◌, List, [], ◌∷◌, Bool, true, false, not, ◌&&◌, ◌||◌, nat_eq, Some, refl, sym, subst, ◌∙◌}
 use Rattle.std.specs.Prelude.{bytes_eq, if◌then◌else◌}
 use Rattle.std.proofs.lemmas.Slice.Eq.{bytes_eq-Decides}
 use Rattle.json_model.specs.Parts.{lookup}
@@ -8,7 +8,7 @@ use Rattle.judge.specs.Names.{keyword_of, keywords}
 use Rattle.judge.specs.declared.keyword.Measure.{Measure}
 use Rattle.judge.specs.declared.keyword.Measure.TheVariants.{CodePoints, Elements, Members}
 use Rattle.judge.specs.declared.keyword.Keyword.{Keyword}
-use Rattle.judge.specs.declared.keyword.Keyword.TheVariants.{«Type», Bound, Least, Greatest, Required}
+use Rattle.judge.specs.declared.keyword.Keyword.TheVariants.{«Type», Enum, Const, Bound, Least, Greatest, Required}
 
 abbrev measure_number : Measure → ℕ
 measure_number CodePoints = 0
@@ -19,6 +19,8 @@ measure_number Members = 2
 abbrev number_of : Keyword → ℕ
 number_of «Type» = 0
 number_of Required = 1
+number_of Enum = 2
+number_of Const = 3
 number_of (Bound op) = 10 + code_of op
 number_of (Least measure) = 20 + measure_number measure
 number_of (Greatest measure) = 30 + measure_number measure

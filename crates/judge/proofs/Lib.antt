@@ -5,7 +5,9 @@ pub mod BoundLaws
 pub mod Compiling
 pub mod Cuts
 pub mod Decided
+pub mod DecidedSame
 pub mod InputAnswers
+pub mod KeptValues
 pub mod KnownBytes
 pub mod LineAnswers
 pub mod NameLists

@@ -6,7 +6,7 @@ use Rattle.std.proofs.lemmas.Slice.Eq.{bytes_eq-Decides}
 use Rattle.json_model.specs.Tree.{Tree}
 use Rattle.json_model.specs.Parts.{as_string, lookup}
 use Rattle.json_traits.proofs.GivesLaws.{AtItem}
-use Rattle.judge.specs.Passes.{HasKeys, Gains}
+use Rattle.judge.specs.inner.Passes.{HasKeys, Gains}
 use Rattle.judge.specs.Validity.{AreDistinct, AreNames}
 use Rattle.judge.specs.Verdict.{IsAmong, IsKeyOf}
 use Rattle.judge.proofs.Compiling.{all_snoc, all_front}
@@ -22,7 +22,8 @@ pub record Collected {Z : Type 0} (ts : List Tree) (names : List (String Z)) (ha
   pub among : (q : Bor (List ℕ)) → IsTrue (has q) ↔ IsAmong q.now (take k ts)
   pub keys : (ps : List (List ℕ × Tree)) → HasKeys names ps ↔ AllByRecursion (IsKeyOf ps) (take k ts)
 
-pub starts : {Z : Type 0} (ts : List Tree) (names : List (String Z)) (has : Bor (List ℕ) → Bool) → names ≡ [] → ((q : Bor (List ℕ)) → has q ≡ false) → Collected ts names has 0
+pub starts : {Z : Type 0} (ts : List Tree) (names : List (String Z)) (has : Bor (List ℕ) → Bool) → names ≡ []
+    → ((q : Bor (List ℕ)) → has q ≡ false) → Collected ts names has 0
 starts ts names has e h = record {
   strings = tt;
   distinct = tt;
@@ -30,10 +31,12 @@ starts ts names has e h = record {
   keys = λ ps. (λ _. tt, λ _. rw e tt);
 }
 
-module _ {Z : Type 0} (ts : List Tree) (names : List (String Z)) (has : Bor (List ℕ) → Bool) (k : ℕ) (y : Tree) (at : AtItem ts k y) (s : Collected ts names has k) where
+module _ {Z : Type 0} (ts : List Tree) (names : List (String Z)) (has : Bor (List ℕ) → Bool) (k : ℕ) (y : Tree)
+    (at : AtItem ts k y) (s : Collected ts names has k) where
   pub no_string : as_string y ≡ None → AreNames ts → ⊥
   no_string e h =
-      let front : AllByRecursion IsString (take k ts ++ y ∷ []) = subst (λ (l : List Tree). AllByRecursion IsString l) at.front (all_take IsString ts (k + 1) h.0) in
+      let front : AllByRecursion IsString (take k ts ++ y ∷ []) =
+      subst (λ (l : List Tree). AllByRecursion IsString l) at.front (all_take IsString ts (k + 1) h.0) in
       gone (as_string y) e (all_front IsString (take k ts) y front).1
     where
       gone : (o : Option (List ℕ)) → o ≡ None → IsSome o → ⊥
@@ -46,7 +49,8 @@ module _ {Z : Type 0} (ts : List Tree) (names : List (String Z)) (has : Bor (Lis
         let front : AreDistinct (take k ts ++ y ∷ []) = subst AreDistinct at.front (distinct_take ts (k + 1) h.1) in
         name_is_old key.now (take k ts) y (sym is) ((s.among key).0 held) (last_is_new (take k ts) y front)
 
-    module _ (more : Bor (List ℕ) → Bool) (free : has key ≡ false) (grows : (q : Bor (List ℕ)) → more q ≡ cond (bytes_eq key.now q.now) true (has q)) where
+    module _ (more : Bor (List ℕ) → Bool) (free : has key ≡ false)
+        (grows : (q : Bor (List ℕ)) → more q ≡ cond (bytes_eq key.now q.now) true (has q)) where
       among_now : (q : Bor (List ℕ)) → IsTrue (more q) ↔ (IsAmong q.now (take k ts) ⊎ (as_string y ≡ Some q.now))
       among_now q = go (bytes_eq key.now q.now) refl
         where
@@ -60,14 +64,19 @@ module _ {Z : Type 0} (ts : List Tree) (names : List (String Z)) (has : Bor (Lis
                 λ h. inl ((s.among q).0 (sym same ∙ h)),
                 λ h. elim h [
                   | inl a ↦ same ∙ (s.among q).1 a
-                  | inr n ↦ (let o : ◌≡◌ {A = Option (List ℕ)} (Some key.now) (Some q.now) = is ∙ n in let i : key.now ≡ q.now = cc in let z : true ≡ false = sym ((bytes_eq-Decides key.now q.now).1 i) ∙ e in cc)
+                  | inr n ↦ (let o : ◌≡◌ {A = Option (List ℕ)} (Some key.now) (Some q.now) = is ∙ n in
+                      let i : key.now ≡ q.now = cc in let z : true ≡ false = sym ((bytes_eq-Decides key.now q.now).1 i) ∙ e in cc)
                 ],
               )
 
-      keys_now : (new : List (String Z)) → Gains names new key.now → (ps : List (List ℕ × Tree)) → HasKeys new ps ↔ AllByRecursion (IsKeyOf ps) (take k ts ++ y ∷ [])
+      keys_now : (new : List (String Z)) → Gains names new key.now → (ps : List (List ℕ × Tree))
+          → HasKeys new ps ↔ AllByRecursion (IsKeyOf ps) (take k ts ++ y ∷ [])
       keys_now new gains ps = rw gains.1 (
-        λ h. (let r = all_front Has names gains.0 h in let key : IsKeyOf ps y = rw (← is) (subst (λ (x : List ℕ). IsSome (lookup x ps)) gains.2 r.1) in all_snoc (IsKeyOf ps) (take k ts) y ((s.keys ps).0 r.0) key),
-        λ h. (let r = all_front (IsKeyOf ps) (take k ts) y h in all_snoc Has names gains.0 ((s.keys ps).1 r.0) (subst (λ (x : List ℕ). IsSome (lookup x ps)) (sym gains.2) (key_of r.1))),
+        λ h. (let r = all_front Has names gains.0 h in
+            let key : IsKeyOf ps y = rw (← is) (subst (λ (x : List ℕ). IsSome (lookup x ps)) gains.2 r.1) in
+            all_snoc (IsKeyOf ps) (take k ts) y ((s.keys ps).0 r.0) key),
+        λ h. (let r = all_front (IsKeyOf ps) (take k ts) y h in
+            all_snoc Has names gains.0 ((s.keys ps).1 r.0) (subst (λ (x : List ℕ). IsSome (lookup x ps)) (sym gains.2) (key_of r.1))),
       )
         where
           Has : String Z → Type 0
@@ -79,7 +88,9 @@ module _ {Z : Type 0} (ts : List Tree) (names : List (String Z)) (has : Bor (Lis
       pub goes_on : (new : List (String Z)) → Gains names new key.now → Collected ts new more (k + 1)
       goes_on new gains = record {
         strings = rw at.front (all_snoc IsString (take k ts) y s.strings (rw (← is) refl));
-        distinct = rw at.front (distinct_snoc (take k ts) y s.distinct (name_is_new key.now (take k ts) y (sym is) (λ a. let z : true ≡ false = sym ((s.among key).1 a) ∙ free in cc)));
+        distinct =
+            rw at.front (distinct_snoc (take k ts) y s.distinct
+            (name_is_new key.now (take k ts) y (sym is) (λ a. let z : true ≡ false = sym ((s.among key).1 a) ∙ free in cc)));
         among = λ q. rw at.front (let h = among_now q in let r = among_snoc q.now (take k ts) y in (λ x. r.1 (h.0 x), λ x. h.1 (r.0 x)));
         keys = λ ps. rw at.front (keys_now new gains ps);
       }
@@ -88,7 +99,8 @@ pub if_both : {X : Type 0} (o : Option X) (A B : X → Type 0) → ((x : X) → 
 if_both None A B h = (λ _. tt, λ _. tt)
 if_both (Some x) A B h = h x
 
-pub ends : {Z : Type 0} (ts : List Tree) (names : List (String Z)) (has : Bor (List ℕ) → Bool) (k : ℕ) → length ts ≤ k → Collected ts names has k → AreNames ts × ((ps : List (List ℕ × Tree)) → HasKeys names ps ↔ AllByRecursion (IsKeyOf ps) ts)
+pub ends : {Z : Type 0} (ts : List Tree) (names : List (String Z)) (has : Bor (List ℕ) → Bool) (k : ℕ) → length ts ≤ k
+    → Collected ts names has k → AreNames ts × ((ps : List (List ℕ × Tree)) → HasKeys names ps ↔ AllByRecursion (IsKeyOf ps) ts)
 ends ts names has k le s =
     let all : take k ts ≡ ts = take_all k ts le in
     let strings : AllByRecursion IsString ts = subst (λ (l : List Tree). AllByRecursion IsString l) all s.strings in

@@ -1,18 +1,20 @@
 -- Each pair of slices has at most one right answer.
-use Rattle.std.proofs.Common.{◌≡◌, ℕ, zero, suc, ◌<◌, List, [], ◌∷◌, take, Bool, true, false, Option, Some, None, refl, sym, ap, subst, ◌∙◌, arith}
-use Rattle.std.specs.Prelude.{Result, Ok, Err, ◌↔◌, IsTrue, IsSome, IsSomeAnd, slice_get}
-use Rattle.std.specs.List.{AllByRecursion}
-use Rattle.std.proofs.lemmas.Option.{slice_get_past}
+use Rattle.std.proofs.Common.{◌≡◌, inl, inr, ℕ, zero, suc, ◌+◌, List, [], ◌∷◌, take, Bool, true, false, Option, Some, None, refl, sym, ap, subst, ◌∙◌, arith}
+use Rattle.std.specs.Prelude.{Result, Ok, Err, ◌↔◌, IsTrue, IsSome, IsSomeAnd, bytes_eq, slice_get, unwrap_or}
+use Rattle.std.specs.List.{AllByRecursion, list_any}
 use Rattle.json_model.specs.Tree.{Tree}
 use Rattle.json_model.specs.Parts.{as_object, pairs_of}
-use Rattle.judge.specs.Names.{keyword_of}
-use Rattle.judge.specs.Verdict.{Verdict}
-use Rattle.judge.specs.Validity.{IsFair, IsUnknown, IsUnbuilt, IsBad, IsFirst, IsValid, HasFault}
 use Rattle.jsonb.specs.declared.error.JsonbError.{JsonbError}
 use Rattle.jsonb.proofs.OneRead.{one_read}
+use Rattle.judge.specs.Names.{keyword_of, to_come}
+use Rattle.judge.specs.Verdict.{Verdict}
+use Rattle.judge.specs.Validity.{HasFault, HasForm, IsBad, IsFair, IsFirst, IsToCome, IsTooDeep, IsUnbuilt, IsUnknown, KeepsDeep, Suits}
 use Rattle.judge.specs.declared.errors.KeywordError.{KeywordError}
 use Rattle.judge.specs.declared.errors.KeywordError.TheVariants as keyword
+use Rattle.judge.specs.declared.keyword.Keyword.{Keyword}
 use Rattle.judge.specs.Right.{Answer, RightOf, RightWith, RightFrom, Right, RightOnTrees}
+use Rattle.judge.proofs.Decided.{Decided, decided_true}
+use Rattle.judge.proofs.SomeFault.{decided_deep, decided_form}
 
 abbrev Pair : Type 0
 Pair = List ℕ × Tree
@@ -29,123 +31,133 @@ right_of t (Ok u) r q h k = h.1 ∙ ap (λ (b : Bool). let a : Answer = Ok b in 
 
 -- ---- one fault
 
-module _ (P : Pair → Type 0) where
-  if_there : (o : Option Pair) → IsSomeAnd o P → (p : Pair) × (o ≡ Some p) × P p
-  if_there None h = absurd h
-  if_there (Some p) h = (p, refl, h)
-
-fair_at : (ps : List Pair) (m n : ℕ) (p : Pair) → m < n → AllByRecursion IsFair (take n ps) → slice_get ps m ≡ Some p → IsFair p
-fair_at [] m n p lt h e = absurd (let z : None ≡ Some p = sym (slice_get_past [] m (omega arith)) ∙ e in cc)
-fair_at (x ∷ ps) m zero p lt h e = absurd (omega arith)
-fair_at (x ∷ ps) zero (suc n) p lt h e = let s : x ≡ p = cc in subst IsFair s h.0
-fair_at (x ∷ ps) (suc m) (suc n) p lt h e = fair_at ps m n p (omega arith) h.1 e
-
-fair_all : (ps : List Pair) (m : ℕ) (p : Pair) → AllByRecursion IsFair ps → slice_get ps m ≡ Some p → IsFair p
-fair_all [] m p h e = absurd (let z : None ≡ Some p = sym (slice_get_past [] m (omega arith)) ∙ e in cc)
-fair_all (x ∷ ps) zero p h e = let s : x ≡ p = cc in subst IsFair s h.0
-fair_all (x ∷ ps) (suc m) p h e = fair_all ps m p h.1 e
-
--- a fault is no fair pair
-abbrev Faulty : (Pair → Type 0) → Type 0
-Faulty P = (p : Pair) → P p → IsFair p → ⊥
-
-none_and : {A : Type 0} (o : Option A) (Q : A → Type 0) → o ≡ None → IsSomeAnd o Q → ⊥
-none_and None Q e h = h
-none_and (Some a) Q e h = cc
-
-both_and : {A : Type 0} (o : Option A) (Q R : A → Type 0) → ((a : A) → Q a → R a → ⊥) → IsSomeAnd o Q → IsSomeAnd o R → ⊥
-both_and None Q R f h k = h
-both_and (Some a) Q R f h k = f a h k
-
-unknown : Faulty IsUnknown
-unknown p h f = none_and (keyword_of p.0) _ h.0 f
-
-unbuilt : Faulty IsUnbuilt
-unbuilt p h f = none_and (keyword_of p.0) _ h.0 f
-
-bad : Faulty IsBad
-bad p h f = both_and (keyword_of p.0) _ _ (λ w q r. q r) h f
-
--- two first faults are at one place
-same_place : (t : Tree) (m n : ℕ) (P Q : Pair → Type 0) → Faulty P → Faulty Q → IsFirst t m P → IsFirst t n Q → m ≡ n
-same_place t m n P Q f g h k =
-    let p = if_there P (slice_get (pairs_of t) m) h.here in
-    let q = if_there Q (slice_get (pairs_of t) n) k.here in
-    order m n (λ lt. f p.0 p.2 (fair_at (pairs_of t) m n p.0 lt k.before p.1)) (λ lt. g q.0 q.2 (fair_at (pairs_of t) n m q.0 lt h.before q.1))
-  where
-    order : (m n : ℕ) → (m < n → ⊥) → (n < m → ⊥) → m ≡ n
-    order m n a b = omega arith
-
--- two first faults are of one kind
-same_pair : (t : Tree) (m n : ℕ) (P Q : Pair → Type 0) → Faulty P → Faulty Q → ((p : Pair) → P p → Q p → ⊥) → IsFirst t m P → IsFirst t n Q → ⊥
-same_pair t m n P Q f g never h k =
-    let e = same_place t m n P Q f g h k in
-    let p = if_there P (slice_get (pairs_of t) m) h.here in
-    let q = if_there Q (slice_get (pairs_of t) n) k.here in
-    let s : Some p.0 ≡ Some q.0 = sym p.1 ∙ ap (slice_get (pairs_of t)) e ∙ q.1 in
-    let i : p.0 ≡ q.0 = cc in
-    never q.0 (subst P i p.2) q.2
-
-not_valid : (t : Tree) (m : ℕ) (P : Pair → Type 0) → Faulty P → IsFirst t m P → IsValid t → ⊥
-not_valid t m P f h v = let p = if_there P (slice_get (pairs_of t) m) h.here in f p.0 p.2 (fair_all (pairs_of t) m p.0 v.fair p.1)
-
-gone : {A : Type 0} (o : Option A) → o ≡ None → IsSome o → ⊥
-gone None e h = cc
-gone (Some a) e h = cc
-
-no_object : (t : Tree) → as_object t ≡ None → IsSome (as_object t) → ⊥
-no_object t e h = gone (as_object t) e h
-
-unknown_unbuilt : (p : Pair) → IsUnknown p → IsUnbuilt p → ⊥
-unknown_unbuilt p h k = h.1 k.1
-
-unknown_bad : (p : Pair) → IsUnknown p → IsBad p → ⊥
-unknown_bad p h k = none_and (keyword_of p.0) _ h.0 k
-
-unbuilt_bad : (p : Pair) → IsUnbuilt p → IsBad p → ⊥
-unbuilt_bad p h k = none_and (keyword_of p.0) _ h.0 k
-
 abbrev Fault : Type 0
 Fault = Option KeywordError
 
-unknown_at : {m n : ℕ} → m ≡ n → ◌≡◌ {A = Fault} (Some (keyword.UnknownKeyword m)) (Some (keyword.UnknownKeyword n))
-unknown_at e = ap (λ k. let f : Fault = Some (keyword.UnknownKeyword k) in f) e
+abbrev fault : KeywordError → Fault
+fault e = Some e
 
-bad_at : {m n : ℕ} → m ≡ n → ◌≡◌ {A = Fault} (Some (keyword.BadKeyword m)) (Some (keyword.BadKeyword n))
-bad_at e = ap (λ k. let f : Fault = Some (keyword.BadKeyword k) in f) e
+-- the fault of member number m, by what is decided of its value: that it has its keyword's form, and that it nests too deep
+abbrev by_value : {F D : Type 0} → Decided F → Decided D → ℕ → Fault
+by_value (inl form) (inl deep) m = Some (keyword.TooDeep m)
+by_value (inl form) (inr not_deep) m = None
+by_value (inr no_form) d m = Some (keyword.BadKeyword m)
 
+-- by its keyword, and whether its name is still to come
+abbrev by_name : {P : Type 0} → Option Keyword → Tree → Decided P → ℕ → Fault
+by_name None v (inl coming) m = Some keyword.Unbuilt
+by_name None v (inr unknown) m = Some (keyword.UnknownKeyword m)
+by_name (Some w) v d m = by_value (decided_form w v) (decided_deep w v) m
+
+abbrev is_coming : (p : Pair) → Decided (IsToCome p.0)
+is_coming p = decided_true (list_any (bytes_eq p.0) to_come)
+
+abbrev cause : Pair → ℕ → Fault
+cause p m = by_name (keyword_of p.0) p.1 (is_coming p) m
+
+unknown_is : (m : ℕ) (p : Pair) → IsUnknown p → cause p m ≡ fault (keyword.UnknownKeyword m)
+unknown_is m p h = go (keyword_of p.0) (is_coming p) h.0 h.1
+  where
+    go : {P : Type 0} (o : Option Keyword) (d : Decided P) → o ≡ None → (P → ⊥) → by_name o p.1 d m ≡ fault (keyword.UnknownKeyword m)
+    go None (inl h) e n = absurd (n h)
+    go None (inr h) e n = refl
+    go (Some w) d e n = absurd cc
+
+unbuilt_is : (m : ℕ) (p : Pair) → IsUnbuilt p → cause p m ≡ fault keyword.Unbuilt
+unbuilt_is m p h = go (keyword_of p.0) (is_coming p) h.0 h.1
+  where
+    go : {P : Type 0} (o : Option Keyword) (d : Decided P) → o ≡ None → P → by_name o p.1 d m ≡ fault keyword.Unbuilt
+    go None (inl h) e c = refl
+    go None (inr h) e c = absurd (h c)
+    go (Some w) d e c = absurd cc
+
+-- what is known of a keyword that is built, and what its value gives
+named_is : {P : Type 0} (Q : Keyword → Type 0) (v : Tree) (m : ℕ) (f : Fault) (o : Option Keyword) (d : Decided P) → IsSomeAnd o Q
+    → ((w : Keyword) → Q w → by_value (decided_form w v) (decided_deep w v) m ≡ f) → by_name o v d m ≡ f
+named_is Q v m f None d h gives = absurd h
+named_is Q v m f (Some w) d h gives = gives w h
+
+bad_is : (m : ℕ) (p : Pair) → IsBad p → cause p m ≡ fault (keyword.BadKeyword m)
+bad_is m p h = named_is (λ w. (HasForm w p.1 → ⊥)) p.1 m (Some (keyword.BadKeyword m)) (keyword_of p.0) (is_coming p) h
+    (λ w n. go (decided_form w p.1) (decided_deep w p.1) n)
+  where
+    go : {F D : Type 0} (f : Decided F) (d : Decided D) → (F → ⊥) → by_value f d m ≡ fault (keyword.BadKeyword m)
+    go (inl f) d n = absurd (n f)
+    go (inr f) d n = refl
+
+deep_is : (m : ℕ) (p : Pair) → IsTooDeep p → cause p m ≡ fault (keyword.TooDeep m)
+deep_is m p h = named_is (λ w. HasForm w p.1 × KeepsDeep w p.1) p.1 m (Some (keyword.TooDeep m)) (keyword_of p.0) (is_coming p) h
+    (λ w n. go (decided_form w p.1) (decided_deep w p.1) n.0 n.1)
+  where
+    go : {F D : Type 0} (f : Decided F) (d : Decided D) → F → D → by_value f d m ≡ fault (keyword.TooDeep m)
+    go (inl f) (inl d) x y = refl
+    go (inl f) (inr d) x y = absurd (d y)
+    go (inr f) d x y = absurd (f x)
+
+fair_is : (m : ℕ) (p : Pair) → IsFair p → cause p m ≡ None
+fair_is m p h = named_is (λ w. Suits w p.1) p.1 m None (keyword_of p.0) (is_coming p) h
+    (λ w s. go (decided_form w p.1) (decided_deep w p.1) s.form s.not_deep)
+  where
+    go : {F D : Type 0} (f : Decided F) (d : Decided D) → F → (D → ⊥) → by_value f d m ≡ None
+    go (inl f) (inl d) x n = absurd (n d)
+    go (inl f) (inr d) x n = refl
+    go (inr f) d x n = absurd (f x)
+
+-- the first fault of pairs, of which the first has number m
+abbrev or_next : Fault → Fault → Fault
+or_next None f = f
+or_next (Some e) f = Some e
+
+abbrev first_cause : List Pair → ℕ → Fault
+first_cause [] m = None
+first_cause (p ∷ ps) m = or_next (cause p m) (first_cause ps (suc m))
+
+none_first : (ps : List Pair) (m : ℕ) → AllByRecursion IsFair ps → first_cause ps m ≡ None
+none_first [] m h = refl
+none_first (p ∷ ps) m h = ap (λ (f : Fault). or_next f (first_cause ps (suc m))) (fair_is m p h.0) ∙ none_first ps (suc m) h.1
+
+found_first : (P : Pair → Type 0) (f : Fault) (n : ℕ) → ((p : Pair) → P p → cause p n ≡ f) → IsSome f
+    → (ps : List Pair) (k m : ℕ) → n ≡ m + k → AllByRecursion IsFair (take k ps) → IsSomeAnd (slice_get ps k) P → first_cause ps m ≡ f
+found_first P f n gives some [] zero m e before here = absurd here
+found_first P f n gives some [] (suc k) m e before here = absurd here
+found_first P f n gives some (p ∷ ps) zero m e before here =
+    let i : m ≡ n = omega arith in
+    ap (λ (x : ℕ). or_next (cause p x) (first_cause ps (suc m))) i ∙ ap (λ (x : Fault). or_next x (first_cause ps (suc m))) (gives p here)
+    ∙ stays f some (first_cause ps (suc m))
+  where
+    stays : (f : Fault) → IsSome f → (g : Fault) → or_next f g ≡ f
+    stays None h g = absurd cc
+    stays (Some x) h g = refl
+found_first P f n gives some (p ∷ ps) (suc k) m e before here =
+    ap (λ (x : Fault). or_next x (first_cause ps (suc m))) (fair_is m p before.0)
+    ∙ found_first P f n gives some ps k (suc m) (omega arith) before.1 here
+
+-- the fault of a keyword tree
+abbrev fault_in : Option (List Pair) → Fault
+fault_in None = Some keyword.NotAnObject
+fault_in (Some ps) = first_cause ps 0
+
+pairs_fault : (o : Option (List Pair)) → IsSome o → fault_in o ≡ first_cause (unwrap_or o []) 0
+pairs_fault None h = absurd cc
+pairs_fault (Some ps) h = refl
+
+member_fault : (t : Tree) (m : ℕ) (P : Pair → Type 0) (e : KeywordError) → ((p : Pair) → P p → cause p m ≡ fault e) → IsFirst t m P
+    → fault_in (as_object t) ≡ fault e
+member_fault t m P e gives h =
+    pairs_fault (as_object t) h.object ∙ found_first P (fault e) m gives refl (pairs_of t) m 0 (omega arith) h.before h.here
+
+fault_is : (t : Tree) (f : Fault) → HasFault t f → fault_in (as_object t) ≡ f
+fault_is t None h = pairs_fault (as_object t) h.object ∙ none_first (pairs_of t) 0 h.fair
+fault_is t (Some keyword.NotAnObject) h = ap fault_in h
+fault_is t (Some (keyword.UnknownKeyword m)) h = member_fault t m IsUnknown (keyword.UnknownKeyword m) (unknown_is m) h
+fault_is t (Some (keyword.BadKeyword m)) h = member_fault t m IsBad (keyword.BadKeyword m) (bad_is m) h
+fault_is t (Some (keyword.TooDeep m)) h = member_fault t m IsTooDeep (keyword.TooDeep m) (deep_is m) h
+fault_is t (Some keyword.Unbuilt) h = member_fault t h.0 IsUnbuilt keyword.Unbuilt (unbuilt_is h.0) h.1
+fault_is t (Some keyword.OutOfMemory) h = absurd h
+
+-- a keyword tree has at most one fault
 one_fault : (t : Tree) (e f : Fault) → HasFault t e → HasFault t f → e ≡ f
-one_fault t None None h k = refl
-one_fault t None (Some keyword.NotAnObject) h k = absurd (no_object t k h.object)
-one_fault t None (Some (keyword.UnknownKeyword m)) h k = absurd (not_valid t m IsUnknown unknown k h)
-one_fault t None (Some (keyword.BadKeyword m)) h k = absurd (not_valid t m IsBad bad k h)
-one_fault t None (Some keyword.Unbuilt) h k = absurd (not_valid t k.0 IsUnbuilt unbuilt k.1 h)
-one_fault t None (Some keyword.OutOfMemory) h k = absurd k
-one_fault t (Some keyword.NotAnObject) None h k = absurd (no_object t h k.object)
-one_fault t (Some keyword.NotAnObject) (Some keyword.NotAnObject) h k = refl
-one_fault t (Some keyword.NotAnObject) (Some (keyword.UnknownKeyword m)) h k = absurd (no_object t h k.object)
-one_fault t (Some keyword.NotAnObject) (Some (keyword.BadKeyword m)) h k = absurd (no_object t h k.object)
-one_fault t (Some keyword.NotAnObject) (Some keyword.Unbuilt) h k = absurd (no_object t h k.1.object)
-one_fault t (Some keyword.NotAnObject) (Some keyword.OutOfMemory) h k = absurd k
-one_fault t (Some (keyword.UnknownKeyword m)) None h k = absurd (not_valid t m IsUnknown unknown h k)
-one_fault t (Some (keyword.UnknownKeyword m)) (Some keyword.NotAnObject) h k = absurd (no_object t k h.object)
-one_fault t (Some (keyword.UnknownKeyword m)) (Some (keyword.UnknownKeyword n)) h k = unknown_at (same_place t m n IsUnknown IsUnknown unknown unknown h k)
-one_fault t (Some (keyword.UnknownKeyword m)) (Some (keyword.BadKeyword n)) h k = absurd (same_pair t m n IsUnknown IsBad unknown bad unknown_bad h k)
-one_fault t (Some (keyword.UnknownKeyword m)) (Some keyword.Unbuilt) h k = absurd (same_pair t m k.0 IsUnknown IsUnbuilt unknown unbuilt unknown_unbuilt h k.1)
-one_fault t (Some (keyword.UnknownKeyword m)) (Some keyword.OutOfMemory) h k = absurd k
-one_fault t (Some (keyword.BadKeyword m)) None h k = absurd (not_valid t m IsBad bad h k)
-one_fault t (Some (keyword.BadKeyword m)) (Some keyword.NotAnObject) h k = absurd (no_object t k h.object)
-one_fault t (Some (keyword.BadKeyword m)) (Some (keyword.UnknownKeyword n)) h k = absurd (same_pair t n m IsUnknown IsBad unknown bad unknown_bad k h)
-one_fault t (Some (keyword.BadKeyword m)) (Some (keyword.BadKeyword n)) h k = bad_at (same_place t m n IsBad IsBad bad bad h k)
-one_fault t (Some (keyword.BadKeyword m)) (Some keyword.Unbuilt) h k = absurd (same_pair t k.0 m IsUnbuilt IsBad unbuilt bad unbuilt_bad k.1 h)
-one_fault t (Some (keyword.BadKeyword m)) (Some keyword.OutOfMemory) h k = absurd k
-one_fault t (Some keyword.Unbuilt) None h k = absurd (not_valid t h.0 IsUnbuilt unbuilt h.1 k)
-one_fault t (Some keyword.Unbuilt) (Some keyword.NotAnObject) h k = absurd (no_object t k h.1.object)
-one_fault t (Some keyword.Unbuilt) (Some (keyword.UnknownKeyword n)) h k = absurd (same_pair t n h.0 IsUnknown IsUnbuilt unknown unbuilt unknown_unbuilt k h.1)
-one_fault t (Some keyword.Unbuilt) (Some (keyword.BadKeyword n)) h k = absurd (same_pair t h.0 n IsUnbuilt IsBad unbuilt bad unbuilt_bad h.1 k)
-one_fault t (Some keyword.Unbuilt) (Some keyword.Unbuilt) h k = refl
-one_fault t (Some keyword.Unbuilt) (Some keyword.OutOfMemory) h k = absurd k
-one_fault t (Some keyword.OutOfMemory) f h k = absurd h
+one_fault t e f h k = sym (fault_is t e h) ∙ fault_is t f k
 
 -- ---- one answer
 

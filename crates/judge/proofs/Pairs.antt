@@ -9,7 +9,7 @@ use Rattle.jsonb.proofs.HexTexts.{pair_no_space}
 use Rattle.judge.specs.declared.errors.JudgeError.{JudgeError}
 use Rattle.judge.specs.declared.errors.JudgeError.TheVariants.{OutOfMemory}
 use Rattle.judge.specs.Answers.{IsJudged, IsPair, LineAnswer, name_of}
-use Rattle.judge.specs.Feeding.{AnswersOne}
+use Rattle.judge.specs.inner.Feeding.{AnswersOne}
 use Rattle.judge.specs.Lines.{Lacks}
 use Rattle.judge.specs.Right.{Right}
 use Rattle.judge.specs.Words.{IsCheck}

@@ -5,7 +5,7 @@ use Rattle.std.specs.Io.KnownBytes.{Consumes, Keeps, IsAtEnd}
 use Rattle.judge.specs.declared.status.Status.{Status}
 use Rattle.judge.specs.declared.status.Status.TheVariants.{Done, BadWords, ReadFault, WriteFault, LineTooLong, InputTooLong, OutOfMemory}
 use Rattle.judge.specs.Lines.{AreShort, lines_of, onto_first}
-use Rattle.judge.specs.Feeding.{AnswersRest, Feeds, IsOpenLine, StoppedIn}
+use Rattle.judge.specs.inner.Feeding.{AnswersRest, Feeds, IsOpenLine, StoppedIn}
 use Rattle.judge.specs.Ran.{Agrees, AnswersBefore, AnswersEnded, Ran}
 use Rattle.judge.proofs.KnownBytes.{Appends-both, Consumes-both, Consumes-none, Consumes-then_kept}
 use Rattle.judge.proofs.Texts.{Answers-append, AreShort-append, lines_of-alone, lines_of-text}

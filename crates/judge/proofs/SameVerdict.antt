@@ -10,17 +10,17 @@ use Rattle.json_exact.proofs.WrittenOrderLaws.{down, up}
 use Rattle.json_exact.specs.DecimalInverseLaws.{ten_pos}
 use Rattle.json_model.specs.Decimal.{Decimal, IsBelow, IsSameValue, IsWhole}
 use Rattle.json_model.specs.Parts.{as_number, as_string, elements_of, lookup, pairs_in, pairs_of, points, trees_in}
-use Rattle.json_model.specs.Rising.{KeysRise}
+use Rattle.json_model.specs.Rising.{KeysRise, KeysRiseInElements, KeysRiseInMembers}
 use Rattle.json_model.specs.Same.{Same, SameElements, SameMembers}
 use Rattle.json_model.specs.Tree.{null, boolean, number, string, Tree, scalar, array, object, Elements, no_elements, element, Members, no_members, member}
-use Rattle.json_semantics.proofs.EquivalenceLaws.{same_turned, same_value_chain}
+use Rattle.json_semantics.proofs.EquivalenceLaws.{same_chain, same_turned, same_value_chain}
 use Rattle.json_traits.specs.Allowed.{IsInteger, IsOfType}
 use Rattle.json_traits.specs.Kinds.{type_of}
 use Rattle.json_traits.specs.declared.types.json_type.JsonType.{JsonType}
 use Rattle.judge.specs.Names.{keyword_of}
-use Rattle.judge.specs.Verdict.{Holds, HoldsAt, IsKeyOf, IsUpTo, Reaches, Verdict, count_of}
+use Rattle.judge.specs.Verdict.{Holds, HoldsAt, IsKeyOf, IsOneOf, IsUpTo, Reaches, Verdict, count_of}
 use Rattle.judge.specs.declared.keyword.Keyword.{Keyword}
-use Rattle.judge.specs.declared.keyword.Keyword.TheVariants.{«Type», Bound, Least, Greatest, Required}
+use Rattle.judge.specs.declared.keyword.Keyword.TheVariants.{«Type», Enum, Const, Bound, Least, Greatest, Required}
 use Rattle.judge.specs.declared.keyword.Measure.{Measure}
 use Rattle.judge.specs.declared.keyword.Measure.TheVariants as counted_as
 use Rattle.json_semantics.specs.Bounds.{Keeps}
@@ -70,9 +70,11 @@ whole_on x y s h = (
 -- what holds of two trees of one kind with the same content holds of two trees that are the same
 module _ (P : Tree → Tree → Type 0) where
   by_kind : P (scalar null) (scalar null) → ((a b : Bool) → a ≡ b → P (scalar (boolean a)) (scalar (boolean b)))
-      → ((x y : Decimal) → IsSameValue x y → P (scalar (number x)) (scalar (number y))) → ((a b : List ℕ) → a ≡ b → P (scalar (string a)) (scalar (string b)))
+      → ((x y : Decimal) → IsSameValue x y → P (scalar (number x)) (scalar (number y)))
+      → ((a b : List ℕ) → a ≡ b → P (scalar (string a)) (scalar (string b)))
       → ((ts us : Elements) → SameElements ts us → P (array ts) (array us))
-      → ((ms ns : Members) → length (pairs_in ms) ≡ length (pairs_in ns) → SameMembers ms ns → P (object ms) (object ns)) → (d e : Tree) → Same d e → P d e
+      → ((ms ns : Members) → length (pairs_in ms) ≡ length (pairs_in ns) → SameMembers ms ns → P (object ms) (object ns))
+      → (d e : Tree) → Same d e → P d e
   by_kind z b n t l o (scalar null) (scalar null) s = z
   by_kind z b n t l o (scalar null) (scalar (boolean y)) s = absurd s
   by_kind z b n t l o (scalar null) (scalar (number y)) s = absurd s
@@ -102,7 +104,9 @@ one_type : (d e : Tree) → Same d e → type_of d ≡ type_of e
 one_type = by_kind (λ d e. type_of d ≡ type_of e) refl (λ a b s. refl) (λ x y s. refl) (λ a b s. refl) (λ ts us s. refl) (λ ms ns n s. refl)
 
 one_string : (d e : Tree) → Same d e → as_string d ≡ as_string e
-one_string = by_kind (λ d e. as_string d ≡ as_string e) refl (λ a b s. refl) (λ x y s. refl) (λ a b s. ap (λ (t : List ℕ). let o : Option (List ℕ) = Some t in o) s) (λ ts us s. refl) (λ ms ns n s. refl)
+one_string =
+    by_kind (λ d e. as_string d ≡ as_string e) refl (λ a b s. refl) (λ x y s. refl)
+    (λ a b s. ap (λ (t : List ℕ). let o : Option (List ℕ) = Some t in o) s) (λ ts us s. refl) (λ ms ns n s. refl)
 
 -- there are as many elements
 as_many : (ts us : Elements) → SameElements ts us → length (trees_in ts) ≡ length (trees_in us)
@@ -125,7 +129,9 @@ one_count counted_as.Members d e s = by_kind (λ d e. count_of counted_as.Member
 
 -- the same as a whole number is a whole number
 integer_on : (d e : Tree) → Same d e → IsInteger d → IsInteger e
-integer_on = by_kind (λ d e. IsInteger d → IsInteger e) (λ h. h) (λ a b s h. h) (λ x y s h. (refl, whole_on x y s h.1)) (λ a b s h. h) (λ ts us s h. h) (λ ms ns n s h. h)
+integer_on =
+    by_kind (λ d e. IsInteger d → IsInteger e) (λ h. h) (λ a b s h. h) (λ x y s h. (refl, whole_on x y s h.1)) (λ a b s h. h)
+    (λ ts us s h. h) (λ ms ns n s h. h)
 
 -- and of the same types
 type_on : (d e : Tree) (t : JsonType) → Same d e → IsOfType d t → IsOfType e t
@@ -147,7 +153,8 @@ found_on k (member l t ms) ns s h = go (bytes_eq k l) refl h (found_on k ms ns s
     first : k ≡ l → IsSome (lookup k (pairs_in ns))
     first e = subst (λ (j : List ℕ). IsSome (lookup j (pairs_in ns))) (sym e) (some_of (lookup l (pairs_in ns)) (λ u. Same t u) s.0)
 
-    go : (b : Bool) → bytes_eq k l ≡ b → IsSome (if b then Some t else lookup k (pairs_in ms)) → (IsSome (lookup k (pairs_in ms)) → IsSome (lookup k (pairs_in ns))) → IsSome (lookup k (pairs_in ns))
+    go : (b : Bool) → bytes_eq k l ≡ b → IsSome (if b then Some t else lookup k (pairs_in ms))
+        → (IsSome (lookup k (pairs_in ms)) → IsSome (lookup k (pairs_in ns))) → IsSome (lookup k (pairs_in ns))
     go true e h f = first ((bytes_eq-Decides k l).0 e)
     go false e h f = f h
 
@@ -159,7 +166,8 @@ all_on P Q f (v ∷ vs) h = (f v h.0, all_on P Q f vs h.1)
 -- the required keys of the first are keys of the second
 required_on : (v d e : Tree) → Same d e → Holds Required v d → Holds Required v e
 required_on v = by_kind (λ d e. Holds Required v d → Holds Required v e) (λ h. h) (λ a b s h. h) (λ x y s h. h) (λ a b s h. h) (λ ts us s h. h)
-    (λ ms ns n s h. all_on (IsKeyOf (pairs_in ms)) (IsKeyOf (pairs_in ns)) (λ u g. IfSome_then (as_string u) g (λ k f. found_on k ms ns s f)) (elements_of v) h)
+    (λ ms ns n s h. all_on (IsKeyOf (pairs_in ms)) (IsKeyOf (pairs_in ns))
+    (λ u g. IfSome_then (as_string u) g (λ k f. found_on k ms ns s f)) (elements_of v) h)
 
 -- ---- each keyword
 
@@ -167,10 +175,12 @@ required_on v = by_kind (λ d e. Holds Required v d → Holds Required v e) (λ 
 bound_on : (R : Decimal → Decimal → Type 0) → ((m x y : Decimal) → IsSameValue x y → R m x → R m y) → (v d e : Tree) → Same d e
     → IfSome (as_number v) (λ m. IfSome (as_number d) (R m)) → IfSome (as_number v) (λ m. IfSome (as_number e) (R m))
 bound_on R f v d e s h = IfSome_then (as_number v) h
-    (λ m. by_kind (λ d e. IfSome (as_number d) (R m) → IfSome (as_number e) (R m)) (λ g. g) (λ a b s g. g) (λ x y s g. f m x y s g) (λ a b s g. g) (λ ts us s g. g) (λ ms ns n s g. g) d e s)
+    (λ m. by_kind (λ d e. IfSome (as_number d) (R m) → IfSome (as_number e) (R m)) (λ g. g) (λ a b s g. g)
+    (λ x y s g. f m x y s g) (λ a b s g. g) (λ ts us s g. g) (λ ms ns n s g. g) d e s)
 
 -- what holds of a count holds of an equal count
-limit_on : (R : Decimal → ℕ → Type 0) (v : Tree) (o p : Option ℕ) → o ≡ p → IfSome (as_number v) (λ m. IfSome o (R m)) → IfSome (as_number v) (λ m. IfSome p (R m))
+limit_on : (R : Decimal → ℕ → Type 0) (v : Tree) (o p : Option ℕ) → o ≡ p → IfSome (as_number v) (λ m. IfSome o (R m))
+    → IfSome (as_number v) (λ m. IfSome p (R m))
 limit_on R v o p e h = subst (λ (q : Option ℕ). IfSome (as_number v) (λ m. IfSome q (R m))) e h
 
 -- a number stands to a limit as each number of its value does
@@ -182,19 +192,61 @@ keeps_on Gt m x y s h = above_on m x y s h
 keeps_on Gte m x y s (inl h) = inl (above_on m x y s h)
 keeps_on Gte m x y s (inr h) = inr (sym (same_on m x y s (sym h)))
 
--- a keyword that d meets, e meets
-holds_on : (w : Keyword) (v d e : Tree) → Same d e → Holds w v d → Holds w v e
-holds_on «Type» v d e s h = (h.0, h.1, type_on d e h.0 s h.2)
-holds_on (Bound op) v d e s h = bound_on (λ m x. Keeps op x m) (keeps_on op) v d e s h
-holds_on (Least measure) v d e s h = limit_on Reaches v (count_of measure d) (count_of measure e) (one_count measure d e s) h
-holds_on (Greatest measure) v d e s h = limit_on IsUpTo v (count_of measure d) (count_of measure e) (one_count measure d e s) h
-holds_on Required v d e s h = required_on v d e s h
+-- ---- values
 
--- what d meets, e meets, in whatever order their members stand
-verdict_on : (ps : List (List ℕ × Tree)) (d e : Tree) → Same d e → AllByRecursion (HoldsAt d) ps → AllByRecursion (HoldsAt e) ps
-verdict_on [] d e s h = tt
-verdict_on (p ∷ ps) d e s h = (IfSome_then (keyword_of p.0) h.0 (λ w g. holds_on w p.1 d e s g), verdict_on ps d e s h.1)
+-- the keys in each element rise, where they rise in the array
+in_elements : (ts : Elements) → KeysRiseInElements ts → AllByRecursion KeysRise (trees_in ts)
+in_elements no_elements h = tt
+in_elements (element t ts) h = (h.0, in_elements ts h.1)
+
+elements_rise : (v : Tree) → KeysRise v → AllByRecursion KeysRise (elements_of v)
+elements_rise (scalar x) h = tt
+elements_rise (array ts) h = in_elements ts h
+elements_rise (object ms) h = tt
+
+abbrev ValueRises : List ℕ × Tree → Type 0
+ValueRises p = KeysRise p.1
+
+-- and in each member's value, where they rise in the object
+in_members : (ms : Members) → KeysRiseInMembers ms → AllByRecursion ValueRises (pairs_in ms)
+in_members no_members h = tt
+in_members (member k t ms) h = (h.0, in_members ms h.1)
+
+members_rise : (k : Tree) → KeysRise k → AllByRecursion ValueRises (pairs_of k)
+members_rise (scalar x) h = tt
+members_rise (array ts) h = tt
+members_rise (object ms) h = in_members ms h.1
+
+-- ---- two equal trees
+
+module _ (d e : Tree) (f : KeysRise d) (g : KeysRise e) (s : Same d e) where
+  -- what d is equal to, e is equal to
+  equal_on : (v : Tree) → KeysRise v → Same d v → Same e v
+  equal_on v r h = same_chain e d v g f r (same_turned d e f g s) h
+
+  one_of_on : (vs : List Tree) → AllByRecursion KeysRise vs → IsOneOf d vs → IsOneOf e vs
+  one_of_on [] r h = h
+  one_of_on (v ∷ vs) r (inl h) = inl (equal_on v r.0 h)
+  one_of_on (v ∷ vs) r (inr h) = inr (one_of_on vs r.1 h)
+
+  -- a keyword that d meets, e meets
+  holds_on : (w : Keyword) (v : Tree) → KeysRise v → Holds w v d → Holds w v e
+  holds_on «Type» v r h = (h.0, h.1, type_on d e h.0 s h.2)
+  holds_on Enum v r h = one_of_on (elements_of v) (elements_rise v r) h
+  holds_on Const v r h = equal_on v r h
+  holds_on (Bound op) v r h = bound_on (λ m x. Keeps op x m) (keeps_on op) v d e s h
+  holds_on (Least measure) v r h = limit_on Reaches v (count_of measure d) (count_of measure e) (one_count measure d e s) h
+  holds_on (Greatest measure) v r h = limit_on IsUpTo v (count_of measure d) (count_of measure e) (one_count measure d e s) h
+  holds_on Required v r h = required_on v d e s h
+
+  -- what d meets, e meets, in whatever order their members stand
+  verdict_on : (ps : List (List ℕ × Tree)) → AllByRecursion ValueRises ps → AllByRecursion (HoldsAt d) ps → AllByRecursion (HoldsAt e) ps
+  verdict_on [] r h = tt
+  verdict_on (p ∷ ps) r h = (IfSome_then (keyword_of p.0) h.0 (λ w k. holds_on w p.1 r.0 k), verdict_on ps r.1 h.1)
 
 -- the other way needs keys that rise: {"a": 1, "a": 1} is the same as {"a": 1, "b": 1} and has no b
-pub same_verdict : (k d e : Tree) → KeysRise d → KeysRise e → Same d e → Verdict k d ↔ Verdict k e
-same_verdict k d e f g s = (verdict_on (pairs_of k) d e s, verdict_on (pairs_of k) e d (same_turned d e f g s))
+pub same_verdict : (k d e : Tree) → KeysRise k → KeysRise d → KeysRise e → Same d e → Verdict k d ↔ Verdict k e
+same_verdict k d e r f g s = (
+  verdict_on d e f g s (pairs_of k) (members_rise k r),
+  verdict_on e d g f (same_turned d e f g s) (pairs_of k) (members_rise k r),
+)

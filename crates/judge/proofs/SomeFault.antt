@@ -3,24 +3,28 @@ use Rattle.std.proofs.Common.{◌≡◌, ◌⊎◌, inl, inr, ℕ, zero, suc, Li
 use Rattle.std.specs.Prelude.{IsSome, IsSomeAnd, bytes_eq, slice_get}
 use Rattle.std.specs.List.{AllByRecursion, list_any}
 use Rattle.json_model.specs.Decimal.{Decimal}
-use Rattle.json_model.specs.Parts.{as_array, as_number, as_object, as_string, pairs_of}
+use Rattle.json_model.specs.Parts.{as_array, as_number, as_object, as_string, elements_of, pairs_of}
+use Rattle.json_model.specs.Nest.{nest}
 use Rattle.json_model.specs.Tree.{Tree, scalar, array, object}
 use Rattle.json_traits.specs.Names.{name_of}
 use Rattle.json_traits.specs.Numbers.{whole}
 use Rattle.judge.specs.Names.{keyword_of, to_come}
-use Rattle.judge.specs.Validity.{AreDistinct, AreNames, AreTypeNames, HasFault, HasForm, IsBad, IsCount, IsFair, IsFirst, IsToCome, IsTypeName, IsUnbuilt, IsUnknown}
+use Rattle.judge.specs.Validity.{AreDistinct, AreNames, AreTypeNames, HasDeep, HasFault, HasForm, IsBad, IsCount, IsDeep, IsFair, IsFirst, IsToCome, IsTooDeep, IsTypeName, IsUnbuilt, IsUnknown, KeepsDeep, Suits}
 use Rattle.judge.specs.Verdict.{IsNameOf}
 use Rattle.judge.specs.declared.errors.KeywordError.{KeywordError}
 use Rattle.judge.specs.declared.errors.KeywordError.TheVariants as keyword
 use Rattle.judge.specs.declared.keyword.Keyword.{Keyword}
-use Rattle.judge.specs.declared.keyword.Keyword.TheVariants.{«Type», Bound, Least, Greatest, Required}
-use Rattle.judge.proofs.Decided.{Decided, decided_all, decided_and, decided_below, decided_both, decided_either, decided_filled, decided_not, decided_some, decided_true, decided_type, decided_whole, same_texts}
+use Rattle.judge.specs.declared.keyword.Keyword.TheVariants.{«Type», Enum, Const, Bound, Least, Greatest, Required}
+use Rattle.judge.proofs.Decided.{Decided, decided_less, decided_all, decided_and, decided_below, decided_both, decided_either, decided_filled, decided_not, decided_some, decided_true, decided_type, decided_whole, same_texts}
 
 -- ---- the forms
 
 decided_distinct : (vs : List Tree) → Decided (AreDistinct vs)
 decided_distinct [] = inl tt
-decided_distinct (v ∷ vs) = decided_both (decided_all (λ u. as_string u ≡ as_string v → ⊥) (λ u. decided_not (same_texts (as_string u) (as_string v))) vs) (decided_distinct vs)
+decided_distinct (v ∷ vs) =
+    decided_both
+    (decided_all (λ u. as_string u ≡ as_string v → ⊥) (λ u. decided_not (same_texts (as_string u) (as_string v))) vs)
+    (decided_distinct vs)
 
 decided_type_name : (v : Tree) → Decided (IsTypeName v)
 decided_type_name v = decided_type (λ t. IsNameOf t v) (λ t. same_texts (as_string v) (Some (name_of t)))
@@ -43,26 +47,51 @@ decided_count m = decided_both (decided_whole m) (decided_not (decided_below m (
 decided_limit : (v : Tree) → Decided (IsSomeAnd (as_number v) IsCount)
 decided_limit v = decided_and IsCount decided_count (as_number v)
 
-decided_form : (w : Keyword) (v : Tree) → Decided (HasForm w v)
+pub decided_form : (w : Keyword) (v : Tree) → Decided (HasForm w v)
 decided_form «Type» v = decided_either (decided_type_name v) (decided_and AreTypeNames decided_type_names (as_array v))
+decided_form Enum v = decided_some (as_array v)
+decided_form Const v = inl tt
 decided_form (Bound op) v = decided_some (as_number v)
 decided_form (Least measure) v = decided_limit v
 decided_form (Greatest measure) v = decided_limit v
 decided_form Required v = decided_and AreNames decided_names (as_array v)
 
--- ---- a member has no fault, or one of the three
+decided_is_deep : (v : Tree) → Decided (IsDeep v)
+decided_is_deep v = decided_less 128 (nest v)
+
+decided_has_deep : (vs : List Tree) → Decided (HasDeep vs)
+decided_has_deep [] = inr (λ h. h)
+decided_has_deep (v ∷ vs) = decided_either (decided_is_deep v) (decided_has_deep vs)
+
+pub decided_deep : (w : Keyword) (v : Tree) → Decided (KeepsDeep w v)
+decided_deep «Type» v = inr (λ h. h)
+decided_deep Enum v = decided_has_deep (elements_of v)
+decided_deep Const v = decided_is_deep v
+decided_deep (Bound op) v = inr (λ h. h)
+decided_deep (Least measure) v = inr (λ h. h)
+decided_deep (Greatest measure) v = inr (λ h. h)
+decided_deep Required v = inr (λ h. h)
+
+-- ---- a member has no fault, or one of the four
 
 abbrev Pair : Type 0
 Pair = List ℕ × Tree
 
 abbrev IsFaulty : Pair → Type 0
-IsFaulty p = IsUnknown p ⊎ (IsUnbuilt p ⊎ IsBad p)
+IsFaulty p = IsUnknown p ⊎ (IsUnbuilt p ⊎ (IsBad p ⊎ IsTooDeep p))
 
 by_keyword : (o : Option Keyword) (v : Tree) (P : Type 0) → Decided P
-    → IsSomeAnd o (λ w. HasForm w v) ⊎ (((o ≡ None) × (P → ⊥)) ⊎ (((o ≡ None) × P) ⊎ IsSomeAnd o (λ w. (HasForm w v → ⊥))))
+    → IsSomeAnd o (λ w. Suits w v) ⊎ (((o ≡ None) × (P → ⊥)) ⊎ (((o ≡ None) × P)
+    ⊎ (IsSomeAnd o (λ w. (HasForm w v → ⊥)) ⊎ IsSomeAnd o (λ w. HasForm w v × KeepsDeep w v))))
 by_keyword None v P (inl p) = inr (inr (inl (refl, p)))
 by_keyword None v P (inr n) = inr (inl (refl, n))
-by_keyword (Some w) v P d = elim (decided_form w v) [ inl fair ↦ inl fair | inr bad ↦ inr (inr (inr bad)) ]
+by_keyword (Some w) v P d = elim (decided_form w v) [
+  | inl form ↦ elim (decided_deep w v) [
+    | inl deep ↦ inr (inr (inr (inr (form, deep))))
+    | inr not_deep ↦ inl (record { form = form; not_deep = not_deep })
+  ]
+  | inr bad ↦ inr (inr (inr (inl bad)))
+]
 
 fair_or_faulty : (p : Pair) → IsFair p ⊎ IsFaulty p
 fair_or_faulty p = by_keyword (keyword_of p.0) p.1 (IsToCome p.0) (decided_true (list_any (bytes_eq p.0) to_come))
@@ -83,20 +112,24 @@ all_or_first (p ∷ ps) = elim (fair_or_faulty p) [
   | inr faulty ↦ inr (zero, (tt, faulty))
 ]
 
-one_of_and : {A : Type 0} (o : Option A) (P Q R : A → Type 0) → IsSomeAnd o (λ a. P a ⊎ (Q a ⊎ R a)) → IsSomeAnd o P ⊎ (IsSomeAnd o Q ⊎ IsSomeAnd o R)
-one_of_and None P Q R h = absurd h
-one_of_and (Some a) P Q R h = h
+one_of_and : {A : Type 0} (o : Option A) (P Q R S : A → Type 0) → IsSomeAnd o (λ a. P a ⊎ (Q a ⊎ (R a ⊎ S a)))
+    → IsSomeAnd o P ⊎ (IsSomeAnd o Q ⊎ (IsSomeAnd o R ⊎ IsSomeAnd o S))
+one_of_and None P Q R S h = absurd h
+one_of_and (Some a) P Q R S h = h
 
 module _ (t : Tree) (is : IsSome (as_object t)) where
   first_is : (m : ℕ) (P : Pair → Type 0) → AllByRecursion IsFair (take m (pairs_of t)) → IsSomeAnd (slice_get (pairs_of t) m) P → IsFirst t m P
   first_is m P before here = record { object = is; before = before; here = here }
 
   of_first : (m : ℕ) → FirstIn (pairs_of t) m IsFaulty → (f : Option KeywordError) × HasFault t f
-  of_first m (before, here) = elim (one_of_and (slice_get (pairs_of t) m) IsUnknown IsUnbuilt IsBad here) [
+  of_first m (before, here) = elim (one_of_and (slice_get (pairs_of t) m) IsUnknown IsUnbuilt IsBad IsTooDeep here) [
     | inl unknown ↦ (Some (keyword.UnknownKeyword m), first_is m IsUnknown before unknown)
     | inr rest ↦ elim rest [
       | inl unbuilt ↦ (Some keyword.Unbuilt, (m, first_is m IsUnbuilt before unbuilt))
-      | inr bad ↦ (Some (keyword.BadKeyword m), first_is m IsBad before bad)
+      | inr rest ↦ elim rest [
+        | inl bad ↦ (Some (keyword.BadKeyword m), first_is m IsBad before bad)
+        | inr deep ↦ (Some (keyword.TooDeep m), first_is m IsTooDeep before deep)
+      ]
     ]
   ]
 

@@ -13,7 +13,8 @@ use Rattle.jsonb.specs.declared.error.JsonbError.TheVariants as errors
 use Rattle.jsonb.proofs.TreeCauses.{of_text, of_narrow, text_of, narrow_of, differ}
 
 -- what is found in the tree that stands says which it is
-by_found : (b : List ℕ) (t : Tree) → Stands b t → (not_text wide : Bool) → (tree_found t).not_text ≡ not_text → (tree_found t).wide ≡ wide → (s : Result Tree JsonbError) × IsRead b s
+by_found : (b : List ℕ) (t : Tree) → Stands b t → (not_text wide : Bool) → (tree_found t).not_text ≡ not_text
+    → (tree_found t).wide ≡ wide → (s : Result Tree JsonbError) × IsRead b s
 by_found b t h true wide e f = (Err errors.NotText, (t, h, λ text. differ (tree_found t).not_text e (of_text t text)))
 by_found b t h false true e f = (Err errors.NumberTooWide, (t, h, text_of t e, λ narrow. differ (tree_found t).wide f (of_narrow t narrow)))
 by_found b t h false false e f = (Ok t, (h, (text_of t e, narrow_of t f)))

@@ -15,10 +15,11 @@ use Rattle.json_traits.specs.Numbers.{decimal_in, whole}
 use Rattle.json_traits.specs.declared.types.json_type.JsonType.{JsonType}
 use Rattle.json_traits.specs.declared.types.json_type.JsonType.TheVariants.{Integer}
 use Rattle.judge.specs.Names.{keyword_of}
-use Rattle.judge.specs.Verdict.{Holds, HoldsAt, IsAmong, IsKeyOf, IsNamed, IsUpTo, Reaches, Verdict, count_of}
+use Rattle.judge.specs.Verdict.{Holds, HoldsAt, IsAmong, IsKeyOf, IsNamed, IsOneOf, IsUpTo, Reaches, Verdict, count_of}
 use Rattle.judge.specs.declared.keyword.Keyword.{Keyword}
-use Rattle.judge.specs.declared.keyword.Keyword.TheVariants.{«Type», Bound, Least, Greatest, Required}
+use Rattle.judge.specs.declared.keyword.Keyword.TheVariants.{«Type», Enum, Const, Bound, Least, Greatest, Required}
 use Rattle.judge.proofs.BoundLaws.{at_most}
+use Rattle.judge.proofs.DecidedSame.{decided_same}
 use Rattle.judge.proofs.Decided.{Decided, decided_all, decided_below, decided_both, decided_either, decided_if, decided_not, decided_some, decided_true, decided_type, decided_whole, same_texts, same_type, truth_of}
 
 -- ---- types
@@ -31,7 +32,9 @@ decided_named : (t : JsonType) (v : Tree) → Decided (IsNamed t v)
 decided_named t v = decided_either (same_texts (as_string v) (Some (name_of t))) (decided_among (name_of t) (elements_of v))
 
 decided_of_type : (d : Tree) (t : JsonType) → Decided (IsOfType d t)
-decided_of_type d t = decided_either (same_type t (type_of d)) (decided_both (same_type t Integer) (decided_both (decided_true (is_number d)) (decided_whole (decimal_in d))))
+decided_of_type d t =
+    decided_either (same_type t (type_of d)) (decided_both (same_type t Integer)
+    (decided_both (decided_true (is_number d)) (decided_whole (decimal_in d))))
 
 -- one of the named types is the document's
 decided_types : (v d : Tree) → Decided ((t : JsonType) × IsNamed t v × IsOfType d t)
@@ -43,11 +46,13 @@ decided_types v d = elim (decided_type (λ t. IsNamed t v × IsOfType d t) (λ t
 -- ---- bounds and counts
 
 -- two numbers, where both trees are numbers
-decided_bound : (R : Decimal → Decimal → Type 0) → ((m x : Decimal) → Decided (R m x)) → (v d : Tree) → Decided (IfSome (as_number v) (λ m. IfSome (as_number d) (R m)))
+decided_bound : (R : Decimal → Decimal → Type 0) → ((m x : Decimal) → Decided (R m x)) → (v d : Tree)
+    → Decided (IfSome (as_number v) (λ m. IfSome (as_number d) (R m)))
 decided_bound R h v d = decided_if (λ m. IfSome (as_number d) (R m)) (λ m. decided_if (R m) (h m) (as_number d)) (as_number v)
 
 -- a number and a count
-decided_limit : (R : Decimal → ℕ → Type 0) → ((m : Decimal) (n : ℕ) → Decided (R m n)) → (v : Tree) (count : Option ℕ) → Decided (IfSome (as_number v) (λ m. IfSome count (R m)))
+decided_limit : (R : Decimal → ℕ → Type 0) → ((m : Decimal) (n : ℕ) → Decided (R m n)) → (v : Tree) (count : Option ℕ)
+    → Decided (IfSome (as_number v) (λ m. IfSome count (R m)))
 decided_limit R h v count = decided_if (λ m. IfSome count (R m)) (λ m. decided_if (R m) (h m) count) (as_number v)
 
 decided_reaches : (m : Decimal) (n : ℕ) → Decided (Reaches m n)
@@ -60,6 +65,12 @@ decided_up_to m n = decided_not (decided_below m (whole (pos n)))
 
 decided_key : (ps : List (List ℕ × Tree)) (v : Tree) → Decided (IsKeyOf ps v)
 decided_key ps v = decided_if (λ s. IsSome (lookup s ps)) (λ s. decided_some (lookup s ps)) (as_string v)
+
+-- ---- values
+
+decided_one_of : (d : Tree) (vs : List Tree) → Decided (IsOneOf d vs)
+decided_one_of d [] = inr (λ h. h)
+decided_one_of d (v ∷ vs) = decided_either (decided_same d v) (decided_one_of d vs)
 
 -- ---- each keyword
 
@@ -79,6 +90,8 @@ decided_keeps Gte m x = decided_at_most m x
 
 decided_holds : (w : Keyword) (v d : Tree) → Decided (Holds w v d)
 decided_holds «Type» v d = decided_types v d
+decided_holds Enum v d = decided_one_of d (elements_of v)
+decided_holds Const v d = decided_same d v
 decided_holds (Bound op) v d = decided_bound (λ m x. Keeps op x m) (decided_keeps op) v d
 decided_holds (Least measure) v d = decided_limit Reaches decided_reaches v (count_of measure d)
 decided_holds (Greatest measure) v d = decided_limit IsUpTo decided_up_to v (count_of measure d)

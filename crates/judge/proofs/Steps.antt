@@ -7,7 +7,7 @@ use Rattle.judge.specs.declared.stream.SinkError.{SinkError}
 use Rattle.judge.specs.declared.stream.SinkError.TheVariants as sink
 use Rattle.judge.specs.Answers.{Answers}
 use Rattle.judge.specs.Faults.{SinkCountsEach}
-use Rattle.judge.specs.Feeding.{Answered, AnswersOne, AnswersRest, Extends, Feeds, IsOpenLine, Puts, StoppedAt, StoppedIn}
+use Rattle.judge.specs.inner.Feeding.{Answered, AnswersOne, AnswersRest, Extends, Feeds, IsOpenLine, Puts, StoppedAt, StoppedIn}
 use Rattle.judge.specs.Lines.{IsOneLine, lines_of, text_of}
 use Rattle.judge.specs.Ran.{IsCutOff}
 use Rattle.judge.proofs.KnownBytes.{Appends-both, Appends-none}

@@ -12,7 +12,7 @@ use Rattle.json_traits.specs.Weights.{same, weight}
 use Rattle.json_traits.specs.declared.types.json_type.JsonType.{JsonType}
 use Rattle.json_traits.specs.declared.types.json_type.JsonType.TheVariants.{Null, Boolean, Integer, Number, String, Array, Object}
 use Rattle.json_traits.specs.declared.types.set.JsonTypeSet.{JsonTypeSet}
-use Rattle.judge.specs.Passes.{IsSetOf}
+use Rattle.judge.specs.inner.Passes.{IsSetOf}
 use Rattle.judge.specs.Validity.{AreDistinct, AreTypeNames, IsTypeName}
 use Rattle.judge.specs.Verdict.{IsAmong, IsNameOf}
 use Rattle.judge.proofs.Compiling.{all_snoc, all_front}
@@ -159,7 +159,8 @@ starts ts set h = record {
 module _ (ts : List Tree) (set : JsonTypeSet) (k : ℕ) (y : Tree) (at : AtItem ts k y) (s : Named ts set k) where
   pub no_name : Says None y → AreTypeNames ts → ⊥
   no_name says names =
-      let front : AllByRecursion IsTypeName (take k ts ++ y ∷ []) = subst (λ (l : List Tree). AllByRecursion IsTypeName l) at.front (all_take IsTypeName ts (k + 1) names.1) in
+      let front : AllByRecursion IsTypeName (take k ts ++ y ∷ []) =
+      subst (λ (l : List Tree). AllByRecursion IsTypeName l) at.front (all_take IsTypeName ts (k + 1) names.1) in
       let named = (all_front IsTypeName (take k ts) y front).1 in
       let z : ◌≡◌ {A = Option JsonType} None (Some named.0) = (says named.0).1 named.1 in
       cc
@@ -169,29 +170,37 @@ module _ (ts : List Tree) (set : JsonTypeSet) (k : ℕ) (y : Tree) (at : AtItem 
       let front : AreDistinct (take k ts ++ y ∷ []) = subst AreDistinct at.front (distinct_take ts (k + 1) names.2) in
       name_is_old (name_of t) (take k ts) y ((says t).0 refl) ((s.held t).0 held) (last_is_new (take k ts) y front)
 
-  module _ (t : JsonType) (new : JsonTypeSet) (says : Says (Some t) y) (free : holds set t ≡ false) (grows : (u : JsonType) → holds new u ≡ holds set u || same u t) where
+  module _ (t : JsonType) (new : JsonTypeSet) (says : Says (Some t) y) (free : holds set t ≡ false)
+      (grows : (u : JsonType) → holds new u ≡ holds set u || same u t) where
     held_now : (u : JsonType) → IsTrue (holds new u) ↔ (IsAmong (name_of u) (take k ts) ⊎ IsNameOf u y)
     held_now u = go (holds set u) (same u t) refl refl
       where
         go : (a b : Bool) → holds set u ≡ a → same u t ≡ b → IsTrue (holds new u) ↔ (IsAmong (name_of u) (take k ts) ⊎ IsNameOf u y)
         go true b e f = (λ _. inl ((s.held u).0 e), λ _. grows u ∙ ap (λ x. x || same u t) e)
-        go false true e f = (λ _. inr ((says u).0 (ap (λ (x : JsonType). let o : Option JsonType = Some x in o) (sym (same_is u t f)))), λ _. grows u ∙ ap (λ x. x || same u t) e ∙ f)
+        go false true e f = (
+          λ _. inr ((says u).0 (ap (λ (x : JsonType). let o : Option JsonType = Some x in o) (sym (same_is u t f)))),
+          λ _. grows u ∙ ap (λ x. x || same u t) e ∙ f,
+        )
         go false false e f = (
           λ h. (let z : true ≡ false = sym h ∙ grows u ∙ ap (λ x. x || same u t) e ∙ f in cc),
           λ h. elim h [
             | inl a ↦ (let z : true ≡ false = sym ((s.held u).1 a) ∙ e in cc)
-            | inr n ↦ (let o : ◌≡◌ {A = Option JsonType} (Some t) (Some u) = (says u).1 n in let i : t ≡ u = cc in let z : true ≡ false = sym (same_refl u) ∙ ap (same u) (sym i) ∙ f in cc)
+            | inr n ↦ (let o : ◌≡◌ {A = Option JsonType} (Some t) (Some u) = (says u).1 n in let i : t ≡ u = cc in
+                let z : true ≡ false = sym (same_refl u) ∙ ap (same u) (sym i) ∙ f in cc)
           ],
         )
 
     pub goes_on : Named ts new (k + 1)
     goes_on = record {
       names = rw at.front (all_snoc IsTypeName (take k ts) y s.names (t, (says t).0 refl));
-      distinct = rw at.front (distinct_snoc (take k ts) y s.distinct (name_is_new (name_of t) (take k ts) y ((says t).0 refl) (λ a. let z : true ≡ false = sym ((s.held t).1 a) ∙ free in cc)));
+      distinct =
+          rw at.front (distinct_snoc (take k ts) y s.distinct
+          (name_is_new (name_of t) (take k ts) y ((says t).0 refl) (λ a. let z : true ≡ false = sym ((s.held t).1 a) ∙ free in cc)));
       held = λ u. rw at.front (let h = held_now u in let r = among_snoc (name_of u) (take k ts) y in (λ x. r.1 (h.0 x), λ x. h.1 (r.0 x)));
     }
 
-pub ends : (ts : List Tree) (set : JsonTypeSet) (k : ℕ) → length ts ≤ k → 0 < length ts → Named ts set k → AreTypeNames ts × ((t : JsonType) → IsTrue (holds set t) ↔ IsAmong (name_of t) ts)
+pub ends : (ts : List Tree) (set : JsonTypeSet) (k : ℕ) → length ts ≤ k → 0 < length ts → Named ts set k
+    → AreTypeNames ts × ((t : JsonType) → IsTrue (holds set t) ↔ IsAmong (name_of t) ts)
 ends ts set k le some s =
     let all : take k ts ≡ ts = take_all k ts le in
     let names : AllByRecursion IsTypeName ts = subst (λ (l : List Tree). AllByRecursion IsTypeName l) all s.names in

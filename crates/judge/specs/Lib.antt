@@ -2,13 +2,13 @@ pub mod Names
 pub mod Verdict
 pub mod Validity
 pub mod Right
-pub mod Passes
+pub mod Compiled
 pub mod Answers
 pub mod Faults
-pub mod Feeding
 pub mod Lines
 pub mod Memory
 pub mod Ran
 pub mod Status
 pub mod Steady
 pub mod Words
+pub mod inner

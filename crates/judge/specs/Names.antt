@@ -5,11 +5,13 @@ use Rattle.json_model.specs.Parts.{lookup}
 use Rattle.json_semantics.specs.declared.numeric_check.BoundOp.TheVariants.{Lt, Lte, Gt, Gte}
 use Rattle.judge.specs.declared.keyword.Measure.TheVariants.{CodePoints, Elements, Members}
 use Rattle.judge.specs.declared.keyword.Keyword.{Keyword}
-use Rattle.judge.specs.declared.keyword.Keyword.TheVariants.{«Type», Bound, Least, Greatest, Required}
+use Rattle.judge.specs.declared.keyword.Keyword.TheVariants.{«Type», Enum, Const, Bound, Least, Greatest, Required}
 
 abbrev pub keywords : List (List ℕ × Keyword)
 keywords =
     (codes "type", «Type») ∷
+    (codes "enum", Enum) ∷
+    (codes "const", Const) ∷
     (codes "minimum", Bound Gte) ∷
     (codes "maximum", Bound Lte) ∷
     (codes "exclusiveMinimum", Bound Gt) ∷
@@ -28,4 +30,4 @@ keyword_of name = lookup name keywords
 
 -- the names that are still to come
 abbrev pub to_come : List (List ℕ)
-to_come = codes "enum" ∷ codes "const" ∷ codes "uniqueItems" ∷ codes "pattern" ∷ []
+to_come = codes "uniqueItems" ∷ codes "pattern" ∷ []

@@ -4,16 +4,17 @@
 use Rattle.std.specs.Prelude.{ℕ, pos, ◌≡◌, ◌⊎◌, ◌<◌, List, [], ◌∷◌, Option, Some, None, ⊤, length, IsTrue, IsSome, IsSomeAnd, bytes_eq, slice_get, take}
 use Rattle.std.specs.List.{AllByRecursion, list_any}
 use Rattle.json_model.specs.Decimal.{Decimal, IsBelow, IsWhole}
-use Rattle.json_model.specs.Parts.{as_array, as_object, as_number, as_string, pairs_of}
+use Rattle.json_model.specs.Parts.{as_array, as_object, as_number, as_string, elements_of, pairs_of}
+use Rattle.json_model.specs.Nest.{nest}
 use Rattle.json_model.specs.Tree.{Tree}
 use Rattle.json_traits.specs.Numbers.{whole}
 use Rattle.json_traits.specs.declared.types.json_type.JsonType.{JsonType}
 use Rattle.judge.specs.Names.{keyword_of, to_come}
 use Rattle.judge.specs.Verdict.{IsNameOf}
 use Rattle.judge.specs.declared.errors.KeywordError.{KeywordError}
-use Rattle.judge.specs.declared.errors.KeywordError.TheVariants.{NotAnObject, UnknownKeyword, BadKeyword, Unbuilt, OutOfMemory}
+use Rattle.judge.specs.declared.errors.KeywordError.TheVariants.{NotAnObject, UnknownKeyword, BadKeyword, TooDeep, Unbuilt, OutOfMemory}
 use Rattle.judge.specs.declared.keyword.Keyword.{Keyword}
-use Rattle.judge.specs.declared.keyword.Keyword.TheVariants.{«Type», Bound, Least, Greatest, Required}
+use Rattle.judge.specs.declared.keyword.Keyword.TheVariants.{«Type», Enum, Const, Bound, Least, Greatest, Required}
 
 -- a name of a type
 abbrev pub IsTypeName : Tree → Type 0
@@ -39,14 +40,40 @@ IsCount m = IsWhole m × (IsBelow m (whole (pos 0)) → ⊥)
 -- the form of a keyword's value
 abbrev pub HasForm : Keyword → Tree → Type 0
 HasForm «Type» v = IsTypeName v ⊎ IsSomeAnd (as_array v) AreTypeNames
+HasForm Enum v = IsSome (as_array v)
+HasForm Const v = ⊤
 HasForm (Bound op) v = IsSome (as_number v)
 HasForm (Least measure) v = IsSomeAnd (as_number v) IsCount
 HasForm (Greatest measure) v = IsSomeAnd (as_number v) IsCount
 HasForm Required v = IsSomeAnd (as_array v) AreNames
 
+-- more than 128 containers stand in each other, the tree itself counted. This limit is this project's own.
+abbrev pub IsDeep : Tree → Type 0
+IsDeep v = 128 < nest v
+
+-- some of the trees is deep
+abbrev pub HasDeep : List Tree → Type 0
+HasDeep [] = ⊥
+HasDeep (v ∷ vs) = IsDeep v ⊎ HasDeep vs
+
+-- a value that the keyword keeps is deep: that of `const`, or an element of `enum`
+abbrev pub KeepsDeep : Keyword → Tree → Type 0
+KeepsDeep «Type» v = ⊥
+KeepsDeep Enum v = HasDeep (elements_of v)
+KeepsDeep Const v = IsDeep v
+KeepsDeep (Bound op) v = ⊥
+KeepsDeep (Least measure) v = ⊥
+KeepsDeep (Greatest measure) v = ⊥
+KeepsDeep Required v = ⊥
+
+-- the keyword takes the value
+pub record Suits (w : Keyword) (v : Tree) : Type 0 where
+  pub form : HasForm w v
+  pub not_deep : KeepsDeep w v → ⊥
+
 -- a member with no fault
 abbrev pub IsFair : List ℕ × Tree → Type 0
-IsFair p = IsSomeAnd (keyword_of p.0) (λ w. HasForm w p.1)
+IsFair p = IsSomeAnd (keyword_of p.0) (λ w. Suits w p.1)
 
 -- the name is one that is still to come
 abbrev pub IsToCome : List ℕ → Type 0
@@ -62,9 +89,27 @@ IsUnbuilt p = (keyword_of p.0 ≡ None) × IsToCome p.0
 abbrev pub IsBad : List ℕ × Tree → Type 0
 IsBad p = IsSomeAnd (keyword_of p.0) (λ w. (HasForm w p.1 → ⊥))
 
--- The member is `required` with a list, fair or not: the one member whose reading takes memory.
-abbrev pub ListsNames : List ℕ × Tree → Type 0
-ListsNames p = (keyword_of p.0 ≡ Some Required) × IsSome (as_array p.1)
+-- the value has the form of its keyword, and nests too deep to be kept
+abbrev pub IsTooDeep : List ℕ × Tree → Type 0
+IsTooDeep p = IsSomeAnd (keyword_of p.0) (λ w. HasForm w p.1 × KeepsDeep w p.1)
+
+-- Reading the value takes memory, fair or not: for the names or the values that a list holds, or for the value itself.
+abbrev pub TakesMemory : Keyword → Tree → Type 0
+TakesMemory «Type» v = ⊥
+TakesMemory Enum v = IsSome (as_array v)
+TakesMemory Const v = ⊤
+TakesMemory (Bound op) v = ⊥
+TakesMemory (Least measure) v = ⊥
+TakesMemory (Greatest measure) v = ⊥
+TakesMemory Required v = IsSome (as_array v)
+
+-- reading the member's value takes memory
+abbrev pub IsCopied : List ℕ × Tree → Type 0
+IsCopied p = IsSomeAnd (keyword_of p.0) (λ w. TakesMemory w p.1)
+
+-- no member is `const`, the one keyword that takes memory for a value that is no container
+abbrev pub IsLean : Tree → Type 0
+IsLean t = AllByRecursion (λ p. keyword_of p.0 ≡ Some Const → ⊥) (pairs_of t)
 
 -- member number m is P, and no member before it has a fault
 pub record IsFirst (t : Tree) (m : ℕ) (P : List ℕ × Tree → Type 0) : Type 0 where
@@ -82,5 +127,6 @@ HasFault t None = IsValid t
 HasFault t (Some NotAnObject) = as_object t ≡ None
 HasFault t (Some (UnknownKeyword m)) = IsFirst t m IsUnknown
 HasFault t (Some (BadKeyword m)) = IsFirst t m IsBad
+HasFault t (Some (TooDeep m)) = IsFirst t m IsTooDeep
 HasFault t (Some Unbuilt) = (m : ℕ) × IsFirst t m IsUnbuilt
 HasFault t (Some OutOfMemory) = ⊥

@@ -1,10 +1,12 @@
--- When a document is valid under a keyword object: JSON Schema 2020-12, validation, sections 6.1.1 for `type`, 6.2.2 to
--- 6.2.5 for the four bounds of numbers, 6.3.1 and 6.3.2 for lengths, 6.4.1 and 6.4.2 for counts of elements, and 6.5.1 to
--- 6.5.3 for counts of members and for `required`. An object that has another keyword gets no verdict (`Validity`).
+-- When a document is valid under a keyword object: JSON Schema 2020-12, validation, sections 6.1.1 to 6.1.3 for `type`,
+-- `enum` and `const`, 6.2.2 to 6.2.5 for the four bounds of numbers, 6.3.1 and 6.3.2 for lengths, 6.4.1 and 6.4.2 for counts
+-- of elements, and 6.5.1 to 6.5.3 for counts of members and for `required`. An object that has another keyword gets no
+-- verdict (`Validity`).
 use Rattle.std.specs.Prelude.{ℕ, pos, ◌≡◌, ◌⊎◌, List, [], ◌∷◌, Option, Some, length, option_map, IsSome, IfSome}
 use Rattle.std.specs.List.{AllByRecursion}
 use Rattle.json_model.specs.Decimal.{Decimal, IsBelow}
 use Rattle.json_model.specs.Parts.{as_array, as_number, as_object, as_string, elements_of, lookup, pairs_of, points}
+use Rattle.json_model.specs.Same.{Same}
 use Rattle.json_model.specs.Tree.{Tree}
 use Rattle.json_semantics.specs.Bounds.{Keeps}
 use Rattle.json_traits.specs.Allowed.{IsOfType}
@@ -15,7 +17,7 @@ use Rattle.judge.specs.Names.{keyword_of}
 use Rattle.judge.specs.declared.keyword.Measure.{Measure}
 use Rattle.judge.specs.declared.keyword.Measure.TheVariants.{CodePoints, Elements, Members}
 use Rattle.judge.specs.declared.keyword.Keyword.{Keyword}
-use Rattle.judge.specs.declared.keyword.Keyword.TheVariants.{«Type», Bound, Least, Greatest, Required}
+use Rattle.judge.specs.declared.keyword.Keyword.TheVariants.{«Type», Enum, Const, Bound, Least, Greatest, Required}
 
 -- the tree is a string that names the type
 abbrev pub IsNameOf : JsonType → Tree → Type 0
@@ -29,6 +31,11 @@ IsAmong s (v ∷ vs) = (as_string v ≡ Some s) ⊎ IsAmong s vs
 -- the tree names the type, alone or in a list
 abbrev pub IsNamed : JsonType → Tree → Type 0
 IsNamed t v = IsNameOf t v ⊎ IsAmong (name_of t) (elements_of v)
+
+-- the tree is equal to one of the others, by JSON equality
+abbrev pub IsOneOf : Tree → List Tree → Type 0
+IsOneOf d [] = ⊥
+IsOneOf d (v ∷ vs) = Same d v ⊎ IsOneOf d vs
 
 -- where the tree is a string, it is a key of the pairs
 abbrev pub IsKeyOf : List (List ℕ × Tree) → Tree → Type 0
@@ -51,6 +58,8 @@ count_of Members d = option_map length (as_object d)
 -- d meets the keyword w with the value v
 abbrev pub Holds : Keyword → Tree → Tree → Type 0
 Holds «Type» v d = (t : JsonType) × IsNamed t v × IsOfType d t
+Holds Enum v d = IsOneOf d (elements_of v)
+Holds Const v d = Same d v
 Holds (Bound op) v d = IfSome (as_number v) (λ m. IfSome (as_number d) (λ x. Keeps op x m))
 Holds (Least measure) v d = IfSome (as_number v) (λ m. IfSome (count_of measure d) (Reaches m))
 Holds (Greatest measure) v d = IfSome (as_number v) (λ m. IfSome (count_of measure d) (IsUpTo m))

@@ -2,7 +2,7 @@
 ghost use Rattle.std.specs.Prelude.{◌≡◌, ◌∷◌, ◌++◌, [], ℕ, List, IfOk, IsNone, IsSomeAnd, MatchOption};
 ghost use Rattle.jsonb.specs.HexText.{IsHexText};
 ghost use Rattle.judge.specs.Answers.{IsPair, LineAnswer, name_of};
-ghost use Rattle.judge.specs.Feeding.{AnswersOne};
+ghost use Rattle.judge.specs.inner.Feeding.{AnswersOne};
 
 use crate::cut::cut_at;
 use crate::{Fault, JudgeError, judge};
@@ -89,6 +89,7 @@ fn printed(verdict: Result<bool, JudgeError>) -> Option<&'static [u8]>
         Err(JudgeError::NotAnObject) => Some(b"NotAnObject\n"),
         Err(JudgeError::UnknownKeyword { .. }) => Some(b"UnknownKeyword\n"),
         Err(JudgeError::BadKeyword { .. }) => Some(b"BadKeyword\n"),
+        Err(JudgeError::TooDeep { .. }) => Some(b"TooDeep\n"),
         Err(JudgeError::Document(Fault::Malformed)) => Some(b"Document(Malformed)\n"),
         Err(JudgeError::Document(Fault::NotText)) => Some(b"Document(NotText)\n"),
         Err(JudgeError::Document(Fault::NumberTooWide)) => Some(b"Document(NumberTooWide)\n"),

@@ -3,7 +3,7 @@
 ghost use Rattle.std.specs.Prelude.{◌≡◌, ◌↔◌, IfSome, IsTrue, None};
 ghost use Rattle.json_model.specs.Decimal.{Decimal};
 ghost use Rattle.json_semantics.specs.declared.numeric_check.BoundOp.{BoundOp};
-ghost use Rattle.judge.specs.Passes.{KeepsAll, IsWithin, bound_at};
+ghost use Rattle.judge.specs.inner.Passes.{KeepsAll, IsWithin, bound_at};
 
 use json_exact::Number;
 use json_semantics::numeric_check::{BoundOp, CompiledBound, check_bound};
@@ -34,8 +34,10 @@ impl Bounds {
     /// Sets a bound, for whose way none is set yet.
     pub(crate) fn set(&mut self, bound: CompiledBound)
         requires { bound_at bound.op self.old ≡ None }
-        ensures kept { (x : Decimal) → KeepsAll self.new x ↔ (KeepsAll self.old x × IsWithin bound x) }
-        ensures free { (op : BoundOp) → (op ≡ bound.op → ⊥) → bound_at op self.new ≡ bound_at op self.old }
+        ensures kept { (x : Decimal)
+            → KeepsAll self.new x ↔ (KeepsAll self.old x × IsWithin bound x) }
+        ensures free { (op : BoundOp) → (op ≡ bound.op → ⊥)
+            → bound_at op self.new ≡ bound_at op self.old }
     {
         match bound.op {
             BoundOp::Lt => self.lt = Some(bound),

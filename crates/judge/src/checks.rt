@@ -4,19 +4,21 @@ ghost use Rattle.std.specs.Prelude.{ℕ, ◌≡◌, ◌↔◌, ◌⊎◌, ◌≤
 ghost use Rattle.json_model.specs.Nest.{nest};
 ghost use Rattle.json_model.specs.Tree.{Tree};
 ghost use Rattle.judge.specs.Names.{keyword_of};
-ghost use Rattle.judge.specs.Passes.{AddFault, Adds, HasRoom, HasThisFault, IsCompiled, IsCompiledMember, IsFault, IsFree, Meets, Passes, Took};
+ghost use Rattle.judge.specs.Compiled.{HasThisFault, IsCompiled, IsCompiledMember, IsFault};
+ghost use Rattle.judge.specs.inner.Passes.{AddFault, Adds, HasRoom, IsFree, Meets, Passes, Took};
 ghost use Rattle.judge.specs.Verdict.{count_of};
-ghost use Rattle.judge.specs.Validity.{IsFirst, ListsNames};
+ghost use Rattle.judge.specs.Validity.{IsCopied, IsFirst, IsLean};
 ghost use Rattle.judge.specs.declared.keyword.Keyword.{Keyword};
 
 use crate::bounds::Bounds;
 use crate::errors::KeywordError;
+use crate::kept::{meets_constant, meets_listed, read_constant, read_listed};
 use crate::keyword::{Keyword, Measure};
 use crate::limits::{Limit, Limits};
 use crate::meets::{meets_bounds, meets_code_points, meets_elements, meets_members, meets_types};
 use crate::names::{meets_required, read_names};
 use crate::read::{read_bound, read_limit, read_types};
-use json_exact::OutOfMemory;
+use json_exact::{OutOfMemory, Value};
 use json_traits::types::JsonTypeSet;
 use json_traits::{Node, Object};
 use std::alloc::Global;
@@ -26,6 +28,8 @@ use std::alloc::Global;
 #[derive(Drop)]
 pub struct Checks {
     types: Option<JsonTypeSet>,
+    listed: Option<Vec<Value>>,
+    constant: Option<Value>,
     bounds: Bounds,
     code_points: Limits,
     elements: Limits,
@@ -41,6 +45,8 @@ impl Checks {
     {
         Checks {
             types: None,
+            listed: None,
+            constant: None,
             bounds: Bounds::none(),
             code_points: Limits::NONE,
             elements: Limits::NONE,
@@ -52,8 +58,10 @@ impl Checks {
     /// Sets the least count of a measure.
     fn set_least(&mut self, measure: Measure, limit: Limit)
         requires { IsFree (Keyword.Least measure) self.old }
-        ensures passes { (d : Tree) → Passes self.new d ↔ (Passes self.old d × IfSome (count_of measure d) (Meets limit)) }
-        ensures frees { (u : Keyword) → (u ≡ Keyword.Least measure → ⊥) → IsFree u self.old → IsFree u self.new }
+        ensures passes { (d : Tree)
+            → Passes self.new d ↔ (Passes self.old d × IfSome (count_of measure d) (Meets limit)) }
+        ensures frees { (u : Keyword) → (u ≡ Keyword.Least measure → ⊥)
+            → IsFree u self.old → IsFree u self.new }
     {
         match measure {
             Measure::CodePoints => self.code_points.least = Some(limit),
@@ -65,8 +73,10 @@ impl Checks {
     /// Sets the greatest count of a measure.
     fn set_greatest(&mut self, measure: Measure, limit: Limit)
         requires { IsFree (Keyword.Greatest measure) self.old }
-        ensures passes { (d : Tree) → Passes self.new d ↔ (Passes self.old d × IfSome (count_of measure d) (HasRoom limit)) }
-        ensures frees { (u : Keyword) → (u ≡ Keyword.Greatest measure → ⊥) → IsFree u self.old → IsFree u self.new }
+        ensures passes { (d : Tree)
+            → Passes self.new d ↔ (Passes self.old d × IfSome (count_of measure d) (HasRoom limit)) }
+        ensures frees { (u : Keyword) → (u ≡ Keyword.Greatest measure → ⊥)
+            → IsFree u self.old → IsFree u self.new }
     {
         match measure {
             Measure::CodePoints => self.code_points.greatest = Some(limit),
@@ -89,6 +99,8 @@ impl Checks {
     {
         match keyword {
             Keyword::Type => self.types = Some(read_types(value, member)?),
+            Keyword::Enum => self.listed = Some(read_listed(alloc, value, member)?),
+            Keyword::Const => self.constant = Some(read_constant(alloc, value, member)?),
             Keyword::Bound(op) => self.bounds.set(read_bound(op, value, member)?),
             Keyword::Least(measure) => self.set_least(measure, read_limit(value, member)?),
             Keyword::Greatest(measure) => self.set_greatest(measure, read_limit(value, member)?),
@@ -116,8 +128,8 @@ impl Checks {
         }
     }
 
-    /// The checks of one keyword, as member number `member` of its object. The error is that member's fault, or
-    /// want of memory, which comes of `required` with a list alone.
+    /// The checks of one keyword, as member number `member` of its object. The error is that member's fault, or want of memory,
+    /// which comes of `required` and `enum` with a list, and of `const`, alone.
     pub fn of_member<'a, N: Node<'a>>(
         alloc: Global,
         name: &str,
@@ -135,11 +147,15 @@ impl Checks {
     }
 
     /// Compiles a keyword object, whose members it walks once, in key order. The error is that of the first faulty member.
-    /// It takes memory for the names that `required` lists alone: no other keyword object gets want of memory.
+    /// It takes memory for the names that `required` lists, and for the values of `enum` and `const`, alone: no other keyword
+    /// object gets want of memory.
     pub fn compile<'a, N: Node<'a>>(alloc: Global, root: &N) -> Result<Checks, KeywordError>
-        ensures right { (result ≡ Err KeywordError.OutOfMemory) ⊎ MatchResult result (IsCompiled (N.tree root.now)) (HasThisFault (N.tree root.now)) }
-        ensures names { result ≡ Err KeywordError.OutOfMemory → (m : ℕ) × IsFirst (N.tree root.now) m ListsNames }
-        ensures free { nest (N.tree root.now) ≤ 1 → result ≡ Err KeywordError.OutOfMemory → ⊥ }
+        ensures right { (result ≡ Err KeywordError.OutOfMemory)
+            ⊎ MatchResult result (IsCompiled (N.tree root.now)) (HasThisFault (N.tree root.now)) }
+        ensures memory { result ≡ Err KeywordError.OutOfMemory
+            → (m : ℕ) × IsFirst (N.tree root.now) m IsCopied }
+        ensures free { nest (N.tree root.now) ≤ 1 → IsLean (N.tree root.now)
+            → result ≡ Err KeywordError.OutOfMemory → ⊥ }
     {
         let Some(object) = root.as_object() else {
             return Err(KeywordError::NotAnObject);
@@ -164,6 +180,8 @@ impl Checks {
         ensures right { IfOk result (λ b. IsTrue b ↔ Passes self.now (N.tree node.now)) }
     {
         let passes = meets_types(self.types, node)
+            && meets_listed(&self.listed, node)
+            && meets_constant(&self.constant, node)
             && meets_bounds(&self.bounds, node)
             && meets_code_points(&self.code_points, node)
             && meets_elements(&self.elements, node)

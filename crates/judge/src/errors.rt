@@ -33,10 +33,14 @@ pub enum KeywordError {
     /// The first faulty member's value has not the form that its keyword asks for, as in `{"type":"x"}`.
     #[error("BadKeyword")]
     BadKeyword { member: usize },
-    /// The first faulty member has a name that is known and not built yet, as in `{"enum":[]}`.
+    /// The first faulty member is `const` with a value that nests more than 128 containers, itself counted, or `enum` with such
+    /// an element.
+    #[error("TooDeep")]
+    TooDeep { member: usize },
+    /// The first faulty member has a name that is known and not built yet, as in `{"pattern":"a"}`.
     #[error("Unbuilt")]
     Unbuilt,
-    /// Memory for the names that `required` lists is wanting.
+    /// Memory for the names that `required` lists, or for the values of `enum` or `const`, is wanting.
     #[error("OutOfMemory")]
     OutOfMemory,
 }
@@ -57,13 +61,17 @@ pub enum JudgeError {
     /// The first faulty member's value has not the form that its keyword asks for, as in `{"type":"x"}`.
     #[error("BadKeyword")]
     BadKeyword { member: usize },
+    /// The first faulty member is `const` with a value that nests more than 128 containers, itself counted, or `enum` with such
+    /// an element.
+    #[error("TooDeep")]
+    TooDeep { member: usize },
     /// The document's bytes are no JSON tree.
     #[error("Document")]
     Document(Fault),
-    /// The first faulty member has a name that is known and not built yet, as in `{"enum":[]}`.
+    /// The first faulty member has a name that is known and not built yet, as in `{"pattern":"a"}`.
     #[error("Unbuilt")]
     Unbuilt,
-    /// Memory for the nesting of a slice, or for the names that `required` lists, is wanting.
+    /// Memory for the nesting of a slice, for the names that `required` lists, or for the values of `enum` or `const`, is wanting.
     #[error("OutOfMemory")]
     OutOfMemory,
 }
@@ -101,6 +109,7 @@ impl JudgeError {
             KeywordError::NotAnObject => JudgeError::NotAnObject,
             KeywordError::UnknownKeyword { member } => JudgeError::UnknownKeyword { member },
             KeywordError::BadKeyword { member } => JudgeError::BadKeyword { member },
+            KeywordError::TooDeep { member } => JudgeError::TooDeep { member },
             KeywordError::Unbuilt => JudgeError::Unbuilt,
             KeywordError::OutOfMemory => JudgeError::OutOfMemory,
         }

@@ -22,6 +22,10 @@ pub(crate) enum Measure {
 pub(crate) enum Keyword {
     /// The document is of a type: `type`.
     Type,
+    /// The document is equal to one of some values: `enum`.
+    Enum,
+    /// The document is equal to a value: `const`.
+    Const,
     /// A number stands to a limit as it should: `minimum` and its like.
     Bound(BoundOp),
     /// A count is at least a limit: `minLength` and its like.
@@ -39,6 +43,8 @@ impl Keyword {
     {
         match name {
             "type" => Some(Keyword::Type),
+            "enum" => Some(Keyword::Enum),
+            "const" => Some(Keyword::Const),
             "minimum" => Some(Keyword::Bound(BoundOp::Gte)),
             "maximum" => Some(Keyword::Bound(BoundOp::Lte)),
             "exclusiveMinimum" => Some(Keyword::Bound(BoundOp::Gt)),
@@ -59,7 +65,7 @@ impl Keyword {
         ensures { result ≡ list_any (bytes_eq name.now) to_come }
     {
         match name {
-            "enum" | "const" | "uniqueItems" | "pattern" => true,
+            "uniqueItems" | "pattern" => true,
             _ => false,
         }
     }

@@ -1,7 +1,7 @@
 //! Laws of the answers, for all slices and for all nodes. What a function here is for is its contract.
 
 ghost use Rattle.std.specs.Prelude.{◌≡◌, ◌↔◌, Bool, Result, IsTrue};
-ghost use Rattle.judge.specs.Passes.{Passes};
+ghost use Rattle.judge.specs.inner.Passes.{Passes};
 ghost use Rattle.json_exact.specs.Trees.{tree};
 ghost use Rattle.json_model.specs.Same.{Same};
 ghost use Rattle.judge.specs.Right.{Answer, Right, RightOnTrees};
@@ -17,7 +17,8 @@ use std::alloc::Global;
 
 /// Each pair of slices has at most one right answer.
 pub fn one_answer(keywords: &[u8], document: &[u8])
-    ensures { (r q : Answer) → Right keywords.now document.now r → Right keywords.now document.now q → r ≡ q }
+    ensures { (r q : Answer)
+        → Right keywords.now document.now r → Right keywords.now document.now q → r ≡ q }
 {
     let _keywords = keywords.len();
     let _document = document.len();
@@ -33,7 +34,9 @@ pub fn some_answer(keywords: &[u8], document: &[u8])
 
 /// Two values have at most one right answer, as keywords and as a document: the causes of a refusal exclude one another.
 pub fn one_answer_on_values(keywords: &Value, document: &Value)
-    ensures { (r q : Result Bool KeywordError) → RightOnTrees (tree keywords.now) (tree document.now) r → RightOnTrees (tree keywords.now) (tree document.now) q → r ≡ q }
+    ensures { (r q : Result Bool KeywordError)
+        → RightOnTrees (tree keywords.now) (tree document.now) r
+        → RightOnTrees (tree keywords.now) (tree document.now) q → r ≡ q }
 {
     let _keywords = ValueNode::new(keywords);
     let _document = ValueNode::new(document);
@@ -41,23 +44,25 @@ pub fn one_answer_on_values(keywords: &Value, document: &Value)
 
 /// Two values have a right answer: the fault of the keywords, or the verdict.
 pub fn some_answer_on_values(keywords: &Value, document: &Value)
-    ensures { (r : Result Bool KeywordError) × RightOnTrees (tree keywords.now) (tree document.now) r }
+    ensures { (r : Result Bool KeywordError)
+        × RightOnTrees (tree keywords.now) (tree document.now) r }
 {
     let _keywords = ValueNode::new(keywords);
     let _document = ValueNode::new(document);
 }
 
 /// Documents that are equal by JSON equality have one verdict under each keyword object, whatever holds the three: 1 is
-/// 1.0. It passes over each document once, by recursion as deep as it nests, and takes no memory.
+/// 1.0. It passes over each of the three once, by recursion as deep as it nests, and takes no memory.
 pub fn equal_documents_have_one_verdict<'a, K: Node<'a>, M: Node<'a>, N: Node<'a>>(
     keywords: &K,
     left: &M,
     right: &N,
 )
     ensures { Same (M.tree left.now) (N.tree right.now)
-        → Verdict (K.tree keywords.now) (M.tree left.now) ↔ Verdict (K.tree keywords.now) (N.tree right.now) }
+        → Verdict (K.tree keywords.now) (M.tree left.now)
+        ↔ Verdict (K.tree keywords.now) (N.tree right.now) }
 {
-    let _keywords = keywords;
+    keys_rise(keywords);
     keys_rise(left);
     keys_rise(right);
 }

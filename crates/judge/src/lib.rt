@@ -10,9 +10,9 @@
 //! checks many documents, whatever holds them: [`Checks::compile`] and [`Checks::check`] take each `json_traits::Node`. Why a
 //! keyword object is refused, and mostly where, is a [`KeywordError`]. Nodes of one tree get one verdict ([`laws::one_verdict`]).
 //!
-//! Built are `type`, the four bounds of numbers, the least and greatest counts of code points, elements and members, and
-//! `required`. `enum`, `const`, `uniqueItems` and `pattern` are known and not built yet: a keyword object that has one is refused
-//! as [`KeywordError::Unbuilt`].
+//! Built are `type`, `enum`, `const`, the four bounds of numbers, the least and greatest counts of code points, elements and
+//! members, and `required`. `uniqueItems` and `pattern` are known and not built yet: a keyword object that has one is refused as
+//! [`KeywordError::Unbuilt`].
 //!
 //! [`run`] reads lines from a [`Source`], judges each, and writes one line of answer for each to a [`Sink`]. A line is
 //! two hex texts with one space between, the keywords and the document. For example the lines
@@ -38,6 +38,7 @@ mod bounds;
 mod checks;
 mod cut;
 mod errors;
+mod kept;
 mod keyword;
 pub mod laws;
 mod limits;

@@ -1,7 +1,7 @@
 //! Limits of counts.
 
 ghost use Rattle.std.specs.Prelude.{◌≡◌, ◌↔◌, IsTrue, IfSome, None};
-ghost use Rattle.judge.specs.Passes.{HasRoom, IsBetween, IsLimitOf, Meets};
+ghost use Rattle.judge.specs.inner.Passes.{HasRoom, IsBetween, IsLimitOf, Meets};
 ghost use Rattle.judge.specs.Validity.{IsCount};
 
 use json_exact::{Decimal, Number};

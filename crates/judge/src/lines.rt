@@ -1,7 +1,7 @@
 //! Pieces of the input, cut into lines, each answered into the sink.
 ghost use Rattle.std.specs.Prelude.{◌≡◌, ◌≤◌, ◌++◌, [], IsErrOf, IsTrue, OnOk, IfErr};
 ghost use Rattle.judge.specs.Faults.{Rose, SinkCountsEach, StepCountsOnce};
-ghost use Rattle.judge.specs.Feeding.{Answered, AnswersRest, Extends, Feeds, IsOpenLine, Puts, StoppedAt, StoppedIn, WriteCause};
+ghost use Rattle.judge.specs.inner.Feeding.{Answered, AnswersRest, Extends, Feeds, IsOpenLine, Puts, StoppedAt, StoppedIn, WriteCause};
 ghost use Rattle.judge.specs.Lines.{IsOneLine};
 
 use crate::answer::Command;

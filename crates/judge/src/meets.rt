@@ -3,7 +3,7 @@
 ghost use Rattle.std.specs.Prelude.{◌↔◌, IsTrue, IfSome};
 ghost use Rattle.json_model.specs.Parts.{as_number};
 ghost use Rattle.json_traits.specs.Allowed.{AllowsType};
-ghost use Rattle.judge.specs.Passes.{IsBetween, KeepsAll};
+ghost use Rattle.judge.specs.inner.Passes.{IsBetween, KeepsAll};
 ghost use Rattle.judge.specs.Verdict.{count_of};
 ghost use Rattle.judge.specs.declared.keyword.Measure.TheVariants as measures;
 
@@ -38,7 +38,8 @@ pub(crate) fn meets_bounds<'a, N: Node<'a>>(bounds: &Bounds, node: &N) -> bool
 
 /// Whether a value is no string, or one whose count of code points is within the limits.
 pub(crate) fn meets_code_points<'a, N: Node<'a>>(limits: &Limits, node: &N) -> bool
-    ensures { IsTrue result ↔ IfSome (count_of measures.CodePoints (N.tree node.now)) (IsBetween limits.now) }
+    ensures { IsTrue result
+        ↔ IfSome (count_of measures.CodePoints (N.tree node.now)) (IsBetween limits.now) }
 {
     if limits.is_empty() {
         return true;
@@ -52,7 +53,8 @@ pub(crate) fn meets_code_points<'a, N: Node<'a>>(limits: &Limits, node: &N) -> b
 /// Whether a value is no array, or one whose count of elements is within the limits.
 #[tactic(auto, using(json_model::proofs::KindLaws::array_some, json_model::proofs::KindLaws::array_none, json_model::proofs::KindLaws::if_array_is))]
 pub(crate) fn meets_elements<'a, N: Node<'a>>(limits: &Limits, node: &N) -> bool
-    ensures { IsTrue result ↔ IfSome (count_of measures.Elements (N.tree node.now)) (IsBetween limits.now) }
+    ensures { IsTrue result
+        ↔ IfSome (count_of measures.Elements (N.tree node.now)) (IsBetween limits.now) }
 {
     if limits.is_empty() {
         return true;
@@ -66,7 +68,8 @@ pub(crate) fn meets_elements<'a, N: Node<'a>>(limits: &Limits, node: &N) -> bool
 /// Whether a value is no object, or one whose count of members is within the limits.
 #[tactic(auto, using(json_model::proofs::KindLaws::object_some, json_model::proofs::KindLaws::object_none, json_model::proofs::KindLaws::if_object_is))]
 pub(crate) fn meets_members<'a, N: Node<'a>>(limits: &Limits, node: &N) -> bool
-    ensures { IsTrue result ↔ IfSome (count_of measures.Members (N.tree node.now)) (IsBetween limits.now) }
+    ensures { IsTrue result
+        ↔ IfSome (count_of measures.Members (N.tree node.now)) (IsBetween limits.now) }
 {
     if limits.is_empty() {
         return true;

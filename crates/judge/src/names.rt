@@ -2,7 +2,7 @@
 
 ghost use Rattle.std.specs.Prelude.{◌≡◌, ◌∷◌, ◌++◌, [], ◌↔◌, IsTrue, IfSome, MatchResult, string_bytes};
 ghost use Rattle.json_model.specs.Parts.{as_object, pairs_of};
-ghost use Rattle.judge.specs.Passes.{AddFault, AreNamesOf, HasKeys, Gains};
+ghost use Rattle.judge.specs.inner.Passes.{AddFault, AreNamesOf, HasKeys, Gains};
 ghost use Rattle.judge.specs.Validity.{HasForm};
 ghost use Rattle.judge.specs.declared.keyword.Keyword.TheVariants as keywords;
 
@@ -19,7 +19,8 @@ pub(crate) fn read_names<'a, N: Node<'a>>(
     member: usize,
 ) -> Result<Vec<String>, KeywordError>
     ensures { MatchResult result
-        (λ names. HasForm keywords.Required (N.tree value.now) × AreNamesOf (N.tree value.now) names.items)
+        (λ names. HasForm keywords.Required (N.tree value.now)
+        × AreNamesOf (N.tree value.now) names.items)
         (AddFault member keywords.Required (N.tree value.now)) }
 {
     let Some(list) = value.as_array() else {
@@ -59,7 +60,8 @@ fn keep(alloc: Global, names: &mut Vec<String>, name: &str) -> bool
 /// Whether a value is no object, or has each of the names as a key. It looks each up: in a slice a look-up walks over the keys.
 #[tactic(auto, using(json_model::proofs::KindLaws::object_some, json_model::proofs::KindLaws::object_none, json_model::proofs::KindLaws::if_object_is))]
 pub(crate) fn meets_required<'a, N: Node<'a>>(names: &Option<Vec<String>>, node: &N) -> bool
-    ensures { IsTrue result ↔ IfSome names.now (λ names. IfSome (as_object (N.tree node.now)) (HasKeys names.items)) }
+    ensures { IsTrue result
+        ↔ IfSome names.now (λ names. IfSome (as_object (N.tree node.now)) (HasKeys names.items)) }
 {
     let Some(names) = names else {
         return true;

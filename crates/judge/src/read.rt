@@ -3,7 +3,7 @@
 ghost use Rattle.std.specs.Prelude.{◌≡◌, ◌↔◌, Some, IsSome, IsSomeAnd, MatchOption, MatchResult};
 ghost use Rattle.json_model.specs.Parts.{as_array, as_number};
 ghost use Rattle.json_traits.specs.declared.types.json_type.JsonType.{JsonType};
-ghost use Rattle.judge.specs.Passes.{IsBadForm, IsBoundOf, IsLimitOf, IsSetOf, IsSetOfList};
+ghost use Rattle.judge.specs.inner.Passes.{IsBadForm, IsBoundOf, IsLimitOf, IsSetOf, IsSetOfList};
 ghost use Rattle.judge.specs.Validity.{AreTypeNames, HasForm, IsCount};
 ghost use Rattle.judge.specs.Verdict.{IsNameOf};
 ghost use Rattle.judge.specs.declared.keyword.Keyword.TheVariants as keywords;

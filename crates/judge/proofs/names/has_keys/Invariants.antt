@@ -1,6 +1,6 @@
 use Rattle.std.proofs.Common.{take}
 use Rattle.json_model.specs.Parts.{pairs_of}
-use Rattle.judge.specs.Passes.{HasKeys}
+use Rattle.judge.specs.inner.Passes.{HasKeys}
 use Rattle.judge.proofs.names.has_keys.Given as goal
 
 abbrev pub invariant-loop-place : goal.invariant-loop-place

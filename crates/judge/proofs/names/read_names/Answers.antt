@@ -8,7 +8,7 @@ use Rattle.json_model.proofs.KindLaws.{if_array_is}
 use Rattle.json_model.specs.Parts.{as_object, elements_of}
 use Rattle.json_traits.proofs.GivesLaws.{left_item, left_end}
 use Rattle.std.specs.List.{AllByRecursion}
-use Rattle.judge.specs.Passes.{HasKeys}
+use Rattle.judge.specs.inner.Passes.{HasKeys}
 use Rattle.judge.specs.Verdict.{IsKeyOf}
 use Rattle.judge.specs.Validity.{AreNames}
 use Rattle.judge.proofs.NameLists.{starts, no_string, twice, goes_on, if_both, ends}
@@ -44,8 +44,10 @@ returns-in_default-as_string g c =
     let k = length c.loop-element.yielded in
     let r = left_item {j = c.next.new.self} (elements_of t) k c.loop-element.invariant.left c.in-Some-element.ensures.steps in (
       refl,
-      λ h. no_string (elements_of t) c.loop-element.names.items (has c.loop-element.seen) k (g.N.HasTree.tree c.in-Some-element.element) r.0 c.loop-element.invariant.collected
-          (sym (ap (option_map (λ (s : Bor (List ℕ)). s.now)) (sym c.in_default-as_string.is) ∙ c.as_string.ensures)) ((of_list t AreNames c.in-Some.ensures).0 h),
+      λ h. no_string (elements_of t) c.loop-element.names.items (has c.loop-element.seen) k
+          (g.N.HasTree.tree c.in-Some-element.element) r.0 c.loop-element.invariant.collected
+          (sym (ap (option_map (λ (s : Bor (List ℕ)). s.now)) (sym c.in_default-as_string.is) ∙ c.as_string.ensures))
+          ((of_list t AreNames c.in-Some.ensures).0 h),
     )
 
 pub returns-in-Ok-false : goal.returns-in-Ok-false
@@ -54,8 +56,10 @@ returns-in-Ok-false g c =
     let k = length c.loop-element.yielded in
     let r = left_item {j = c.next.new.self} (elements_of t) k c.loop-element.invariant.left c.in-Some-element.ensures.steps in (
       refl,
-      λ h. twice (elements_of t) c.loop-element.names.items (has c.loop-element.seen) k (g.N.HasTree.tree c.in-Some-element.element) r.0 c.loop-element.invariant.collected
-          c.in-Some-as_string.name c.in-Some-as_string.ensures (not_false _ (sym c.in-Ok-false.ensures.added ∙ c.in-Ok-false.field-0-test)) ((of_list t AreNames c.in-Some.ensures).0 h),
+      λ h. twice (elements_of t) c.loop-element.names.items (has c.loop-element.seen) k
+          (g.N.HasTree.tree c.in-Some-element.element) r.0 c.loop-element.invariant.collected
+          c.in-Some-as_string.name c.in-Some-as_string.ensures
+          (not_false _ (sym c.in-Ok-false.ensures.added ∙ c.in-Ok-false.field-0-test)) ((of_list t AreNames c.in-Some.ensures).0 h),
     )
 
 pub loop-element-preserved : goal.loop-element-preserved
@@ -67,9 +71,13 @@ loop-element-preserved g c =
       can = c.in-Some-element.ensures.goes.keeps;
       ends = (c.in-Some-element.ensures.goes.on c.loop-element.invariant.ends).1;
       left = simp length-append r.1;
-      collected = simp length-append (goes_on (elements_of t) c.loop-element.names.items (has c.loop-element.seen) k (g.N.HasTree.tree c.in-Some-element.element) r.0 c.loop-element.invariant.collected
-          c.in-Some-as_string.name c.in-Some-as_string.ensures (has c.insert.new.self) (not_true _ (sym c.in-Ok-true.ensures.added ∙ c.in-Ok-true.field-0-test))
-          (λ q. c.in-Ok-true.ensures.updates.0 q ∙ ap (λ b. cond b true (has c.loop-element.seen q)) (is_eq-slice_cmp c.in-Some-as_string.name.now q.now))
+      collected =
+          simp length-append (goes_on (elements_of t) c.loop-element.names.items (has c.loop-element.seen) k
+          (g.N.HasTree.tree c.in-Some-element.element) r.0 c.loop-element.invariant.collected
+          c.in-Some-as_string.name c.in-Some-as_string.ensures (has c.insert.new.self)
+          (not_true _ (sym c.in-Ok-true.ensures.added ∙ c.in-Ok-true.field-0-test))
+          (λ q. c.in-Ok-true.ensures.updates.0 q ∙ ap (λ b. cond b true (has c.loop-element.seen q))
+          (is_eq-slice_cmp c.in-Some-as_string.name.now q.now))
           c.keep.new.names.items (c.keep.ensures c.if-not-keep.false));
     }
 
@@ -77,5 +85,9 @@ pub returns : goal.returns
 returns g c =
     let t = g.N.HasTree.tree c.args.value.now in
     let k = length c.loop-element.yielded in
-    let e = ends (elements_of t) c.loop-element.names.items (has c.loop-element.seen) k (left_end {u = c.next.new.self} (elements_of t) k c.loop-element.invariant.left c.in-None.ensures.steps) c.loop-element.invariant.collected in
-    ((of_list t AreNames c.in-Some.ensures).1 e.0, λ d. if_both (as_object d) (HasKeys c.loop-element.names.items) (λ ps. AllByRecursion (IsKeyOf ps) (elements_of t)) e.1)
+    let e = ends (elements_of t) c.loop-element.names.items (has c.loop-element.seen) k
+    (left_end {u = c.next.new.self} (elements_of t) k c.loop-element.invariant.left c.in-None.ensures.steps) c.loop-element.invariant.collected in (
+      (of_list t AreNames c.in-Some.ensures).1 e.0,
+      λ d. if_both (as_object d) (HasKeys c.loop-element.names.items)
+          (λ ps. AllByRecursion (IsKeyOf ps) (elements_of t)) e.1,
+    )

@@ -22,7 +22,8 @@ returns-in_default g c =
     let t = g.N.HasTree.tree c.args.value.now in
     let k = length c.loop-element.yielded in
     let r = left_item {j = c.next.new.self} (elements_of t) k c.loop-element.invariant.left c.in-Some.ensures.steps in
-    λ names. no_name (elements_of t) c.loop-element.set k (g.N.HasTree.tree c.in-Some.element) r.0 c.loop-element.invariant.named (rw (← c.in_default.is) c.read_type.ensures)
+    λ names. no_name (elements_of t) c.loop-element.set k (g.N.HasTree.tree c.in-Some.element) r.0
+    c.loop-element.invariant.named (rw (← c.in_default.is) c.read_type.ensures)
     ((of_list t AreTypeNames c.in_ok-list.ensures).0 names)
 
 pub returns-then-contains : goal.returns-then-contains
@@ -30,7 +31,8 @@ returns-then-contains g c =
     let t = g.N.HasTree.tree c.args.value.now in
     let k = length c.loop-element.yielded in
     let r = left_item {j = c.next.new.self} (elements_of t) k c.loop-element.invariant.left c.in-Some.ensures.steps in
-    λ names. twice (elements_of t) c.loop-element.set k (g.N.HasTree.tree c.in-Some.element) r.0 c.loop-element.invariant.named c.in-Some-read_type.json_type c.in-Some-read_type.ensures
+    λ names. twice (elements_of t) c.loop-element.set k (g.N.HasTree.tree c.in-Some.element) r.0 c.loop-element.invariant.named
+    c.in-Some-read_type.json_type c.in-Some-read_type.ensures
     (sym c.contains.ensures ∙ c.if-contains.true)
     ((of_list t AreTypeNames c.in_ok-list.ensures).0 names)
 
@@ -43,7 +45,8 @@ loop-element-preserved g c =
       can = c.in-Some.ensures.goes.keeps;
       ends = (c.in-Some.ensures.goes.on c.loop-element.invariant.ends).1;
       left = simp length-append r.1;
-      named = simp length-append (goes_on (elements_of t) c.loop-element.set k (g.N.HasTree.tree c.in-Some.element) r.0 c.loop-element.invariant.named c.in-Some-read_type.json_type c.insert-set.result
+      named = simp length-append (goes_on (elements_of t) c.loop-element.set k
+          (g.N.HasTree.tree c.in-Some.element) r.0 c.loop-element.invariant.named c.in-Some-read_type.json_type c.insert-set.result
           c.in-Some-read_type.ensures (sym c.contains.ensures ∙ c.if-contains.false) c.insert-set.ensures);
     }
 
@@ -52,5 +55,7 @@ returns g c =
     let t = g.N.HasTree.tree c.args.value.now in
     let k = length c.loop-element.yielded in
     let some = ap length (ap elements_of (if_array_is t c.in_ok-list.ensures)) in
-    let e = ends (elements_of t) c.loop-element.set k (left_end {u = c.next.new.self} (elements_of t) k c.loop-element.invariant.left c.in-None.ensures.steps) (let n = c.if-len-eq0.false in let l = c.len.ensures in omega arith) c.loop-element.invariant.named in
+    let e = ends (elements_of t) c.loop-element.set k
+    (left_end {u = c.next.new.self} (elements_of t) k c.loop-element.invariant.left c.in-None.ensures.steps)
+    (let n = c.if-len-eq0.false in let l = c.len.ensures in omega arith) c.loop-element.invariant.named in
     ((of_list t AreTypeNames c.in_ok-list.ensures).1 e.0, e.1)

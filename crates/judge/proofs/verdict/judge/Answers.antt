@@ -3,22 +3,39 @@ use Rattle.judge.proofs.Answering.{keywords_refused, keyword_refused, keyword_re
 use Rattle.judge.proofs.verdict.judge.Goals as goal
 
 pub returns-in-Err-clause-right : goal.returns-in-Err-clause-right
-returns-in-Err-clause-right c = keywords_refused c.args.keywords.now c.args.document.now c.in-Err.error c.of_keywords.result c.of_keywords.ensures c.in-Err.ensures.read
+returns-in-Err-clause-right c =
+    keywords_refused c.args.keywords.now c.args.document.now c.in-Err.error c.of_keywords.result c.of_keywords.ensures c.in-Err.ensures.read
 
 pub returns-in-Err-compile-clause-right : goal.returns-in-Err-compile-clause-right
-returns-in-Err-compile-clause-right c = keyword_refused c.args.keywords.now c.args.document.now c.in-Ok.root (node_tree c.in-Ok.root) c.in-Ok.ensures.read c.in-Err-compile.error c.of_keyword.result c.of_keyword.ensures c.in-Err-compile.ensures.right
+returns-in-Err-compile-clause-right c =
+    keyword_refused c.args.keywords.now c.args.document.now c.in-Ok.root
+    (node_tree c.in-Ok.root) c.in-Ok.ensures.read c.in-Err-compile.error c.of_keyword.result c.of_keyword.ensures c.in-Err-compile.ensures.right
 
 pub returns-in-Err-root-clause-right : goal.returns-in-Err-root-clause-right
-returns-in-Err-root-clause-right c = document_refused c.args.keywords.now c.args.document.now c.in-Ok.root (node_tree c.in-Ok.root) c.in-Ok.ensures.read c.in-Ok-compile.checks c.in-Ok-compile.ensures.right c.in-Err-root.error c.of_document.result c.of_document.ensures c.in-Err-root.ensures.read
+returns-in-Err-root-clause-right c =
+    document_refused c.args.keywords.now c.args.document.now c.in-Ok.root
+    (node_tree c.in-Ok.root) c.in-Ok.ensures.read c.in-Ok-compile.checks c.in-Ok-compile.ensures.right c.in-Err-root.error
+    c.of_document.result c.of_document.ensures c.in-Err-root.ensures.read
 
 pub returns-in-Ok-check-clause-right : goal.returns-in-Ok-check-clause-right
-returns-in-Ok-check-clause-right c = verdict c.args.keywords.now c.args.document.now c.in-Ok.root (node_tree c.in-Ok.root) c.in-Ok.ensures.read c.in-Ok-compile.checks c.in-Ok-compile.ensures.right c.in-Ok-root.node (node_tree c.in-Ok-root.node) c.in-Ok-check.valid c.in-Ok-root.ensures.read c.in-Ok-check.ensures.right
+returns-in-Ok-check-clause-right c =
+    verdict c.args.keywords.now c.args.document.now c.in-Ok.root (node_tree c.in-Ok.root) c.in-Ok.ensures.read
+    c.in-Ok-compile.checks c.in-Ok-compile.ensures.right c.in-Ok-root.node
+    (node_tree c.in-Ok-root.node) c.in-Ok-check.valid c.in-Ok-root.ensures.read c.in-Ok-check.ensures.right
 
 pub returns-in-Err-compile-clause-free : goal.returns-in-Err-compile-clause-free
-returns-in-Err-compile-clause-free c = λ t u stands le _ _. keyword_refused_with_memory c.args.keywords.now c.args.document.now c.in-Ok.root (node_tree c.in-Ok.root) c.in-Ok.ensures.read c.in-Err-compile.error c.of_keyword.result c.of_keyword.ensures c.in-Err-compile.ensures.free t stands le
+returns-in-Err-compile-clause-free c =
+    λ t u stands le lean _ _. keyword_refused_with_memory c.args.keywords.now c.args.document.now c.in-Ok.root
+    (node_tree c.in-Ok.root) c.in-Ok.ensures.read c.in-Err-compile.error c.of_keyword.result c.of_keyword.ensures
+    c.in-Err-compile.ensures.free t stands le lean
 
 pub returns-in-Err-compile-clause-refused : goal.returns-in-Err-compile-clause-refused
-returns-in-Err-compile-clause-refused c = λ t stands le _. keyword_refused_with_memory c.args.keywords.now c.args.document.now c.in-Ok.root (node_tree c.in-Ok.root) c.in-Ok.ensures.read c.in-Err-compile.error c.of_keyword.result c.of_keyword.ensures c.in-Err-compile.ensures.free t stands le
+returns-in-Err-compile-clause-refused c =
+    λ t stands le lean _. keyword_refused_with_memory c.args.keywords.now c.args.document.now c.in-Ok.root
+    (node_tree c.in-Ok.root) c.in-Ok.ensures.read c.in-Err-compile.error c.of_keyword.result c.of_keyword.ensures
+    c.in-Err-compile.ensures.free t stands le lean
 
 pub returns-in-Err-root-clause-refused : goal.returns-in-Err-root-clause-refused
-returns-in-Err-root-clause-refused c = λ t stands le never _. not_refused c.args.keywords.now c.args.document.now c.in-Ok.root (node_tree c.in-Ok.root) c.in-Ok.ensures.read c.in-Ok-compile.checks c.in-Ok-compile.ensures.right t stands never
+returns-in-Err-root-clause-refused c =
+    λ t stands le lean never _. not_refused c.args.keywords.now c.args.document.now c.in-Ok.root
+    (node_tree c.in-Ok.root) c.in-Ok.ensures.read c.in-Ok-compile.checks c.in-Ok-compile.ensures.right t stands never

@@ -1,5 +1,11 @@
-use Rattle.judge.proofs.Adding.{adds_bound, adds_least, adds_greatest}
+use Rattle.judge.proofs.Adding.{adds_bound, adds_greatest, adds_least, adds_listed}
 use Rattle.judge.proofs.checks.Checks.add.Goals as goal
+
+pub returns-in_ok-read_listed-in-Enum-clause-ok : goal.returns-in_ok-read_listed-in-Enum-clause-ok
+returns-in_ok-read_listed-in-Enum-clause-ok g c =
+    let is = c.in_ok-read_listed-in-Enum.ensures in
+    let free = rw c.in-Enum.is at c.requires in
+    rw c.in-Enum.is (adds_listed c.args.self.now (g.N.HasTree.tree c.args.value.now) c.in_ok-read_listed-in-Enum.field-0 free is.0 is.1)
 
 pub returns-in_ok-read_bound-in-Bound-clause-ok : goal.returns-in_ok-read_bound-in-Bound-clause-ok
 returns-in_ok-read_bound-in-Bound-clause-ok g c =
@@ -9,10 +15,12 @@ returns-in_ok-read_bound-in-Bound-clause-ok g c =
 
 pub returns-in_ok-read_limit-in-Least-clause-ok : goal.returns-in_ok-read_limit-in-Least-clause-ok
 returns-in_ok-read_limit-in-Least-clause-ok g c =
-    rw c.in-Least.is (adds_least c.args.self.now (g.N.HasTree.tree c.args.value.now) c.in-Least.measure c.in_ok-read_limit-in-Least.field-0 c.set_least.new.self
+    rw c.in-Least.is (adds_least c.args.self.now (g.N.HasTree.tree c.args.value.now) c.in-Least.measure
+    c.in_ok-read_limit-in-Least.field-0 c.set_least.new.self
     c.in_ok-read_limit-in-Least.ensures c.set_least.ensures.passes c.set_least.ensures.frees)
 
 pub returns-in_ok-read_limit-in-Greatest-clause-ok : goal.returns-in_ok-read_limit-in-Greatest-clause-ok
 returns-in_ok-read_limit-in-Greatest-clause-ok g c =
-    rw c.in-Greatest.is (adds_greatest c.args.self.now (g.N.HasTree.tree c.args.value.now) c.in-Greatest.measure c.in_ok-read_limit-in-Greatest.field-0 c.set_greatest.new.self
+    rw c.in-Greatest.is (adds_greatest c.args.self.now (g.N.HasTree.tree c.args.value.now) c.in-Greatest.measure
+    c.in_ok-read_limit-in-Greatest.field-0 c.set_greatest.new.self
     c.in_ok-read_limit-in-Greatest.ensures c.set_greatest.ensures.passes c.set_greatest.ensures.frees)

@@ -6,8 +6,10 @@ use Rattle.judge.proofs.limits.Limit.of_number.Goals.{then-not-is_integer-via-th
 
 pub returns-then-not-is_integer-clause-none : goal.returns-then-not-is_integer-clause-none
 returns-then-not-is_integer-clause-none c = λ _. elim c.then-not-is_integer.branch [
-  | then-not-is_integer-via-then-not-is_integer w ↦ not_whole c.decimal-limit.result c.args.number.now c.is_integer.result c.decimal-limit.ensures w.if-not-is_integer.true c.is_integer.ensures.whole
-  | then-not-is_integer-via-else-not-is_integer+then-lt w ↦ no_count c.decimal-limit.result c.args.number.now w.from_u64.result c.decimal-limit.ensures w.from_u64.ensures.value (sym w.lt.ensures ∙ w.if-lt.true)
+  | then-not-is_integer-via-then-not-is_integer w ↦ not_whole c.decimal-limit.result c.args.number.now c.is_integer.result
+      c.decimal-limit.ensures w.if-not-is_integer.true c.is_integer.ensures.whole
+  | then-not-is_integer-via-else-not-is_integer+then-lt w ↦ no_count c.decimal-limit.result c.args.number.now w.from_u64.result
+      c.decimal-limit.ensures w.from_u64.ensures.value (sym w.lt.ensures ∙ w.if-lt.true)
 ]
 
 pub returns-in-Some-clause-some : goal.returns-in-Some-clause-some

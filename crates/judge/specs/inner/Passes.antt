@@ -1,8 +1,11 @@
--- Which documents pass compiled checks, and what compiling does. The code's own words.
-use Rattle.std.specs.Prelude.{List, [], ◌∷◌, ◌++◌, ℕ, pos, ◌*◌, ◌≤◌, ◌<ℤ◌, ◌≡◌, ◌↔◌, IsTrue, IsSome, IsSomeAnd, String, string_bytes, Option, Some, None, IfSome}
+-- Which documents pass compiled checks, and what a member that is taken in adds to them. The code's own words.
+use Rattle.std.specs.Prelude.{List, [], ◌∷◌, ◌++◌, ℕ, pos, ◌*◌, ◌≤◌, ◌<ℤ◌, ◌≡◌, ◌↔◌, IsTrue, IsSome, IsSomeAnd, map, String, string_bytes, Option, Some, None, IfSome}
 use Rattle.json_exact.specs.Exact.{exactly, parts}
+use Rattle.json_exact.specs.Trees.{tree}
+use Rattle.json_exact.specs.declared.value.Value.{Value}
 use Rattle.json_model.specs.Decimal.{Decimal}
 use Rattle.json_model.specs.Parts.{as_array, as_number, as_object, elements_of, lookup}
+use Rattle.json_model.specs.Same.{Same}
 use Rattle.json_model.specs.Tree.{Tree}
 use Rattle.json_semantics.specs.Bounds.{Keeps}
 use Rattle.json_semantics.specs.declared.numeric_check.BoundOp.{BoundOp}
@@ -15,17 +18,17 @@ use Rattle.json_traits.specs.declared.types.json_type.JsonType.{JsonType}
 use Rattle.json_traits.specs.declared.types.set.JsonTypeSet.{JsonTypeSet}
 use Rattle.std.specs.List.{AllByRecursion}
 use Rattle.judge.specs.Names.{keyword_of}
-use Rattle.judge.specs.Validity.{AreTypeNames, HasFault, HasForm, IsFair, IsUnknown, IsUnbuilt, IsBad, IsValid, ListsNames}
-use Rattle.judge.specs.Verdict.{IsAmong, IsNamed, Reaches, IsUpTo, count_of, Holds, HoldsAt, Verdict}
+use Rattle.judge.specs.Validity.{AreTypeNames, HasForm, IsFair, KeepsDeep, Suits, TakesMemory}
+use Rattle.judge.specs.Verdict.{IsAmong, IsNamed, IsOneOf, Reaches, IsUpTo, count_of, Holds, HoldsAt}
 use Rattle.judge.specs.declared.checks.Checks.{Checks}
 use Rattle.judge.specs.declared.bounds.Bounds.{Bounds}
 use Rattle.judge.specs.declared.limits.Limit.{Limit}
 use Rattle.judge.specs.declared.limits.Limit.TheVariants.{Small, Large}
 use Rattle.judge.specs.declared.limits.Limits.{Limits}
 use Rattle.judge.specs.declared.errors.KeywordError.{KeywordError}
-use Rattle.judge.specs.declared.errors.KeywordError.TheVariants.{NotAnObject, UnknownKeyword, BadKeyword, Unbuilt, OutOfMemory}
+use Rattle.judge.specs.declared.errors.KeywordError.TheVariants.{NotAnObject, UnknownKeyword, BadKeyword, TooDeep, Unbuilt, OutOfMemory}
 use Rattle.judge.specs.declared.keyword.Keyword.{Keyword}
-use Rattle.judge.specs.declared.keyword.Keyword.TheVariants.{«Type», Bound, Least, Greatest, Required}
+use Rattle.judge.specs.declared.keyword.Keyword.TheVariants.{«Type», Enum, Const, Bound, Least, Greatest, Required}
 use Rattle.judge.specs.declared.keyword.Measure.{Measure}
 use Rattle.judge.specs.declared.keyword.Measure.TheVariants.{CodePoints, Elements, Members}
 
@@ -48,6 +51,18 @@ Gains {Z = Z} old new name = (copy : String Z) × (new ≡ old ++ copy ∷ []) �
 -- the names ask for what the list v asks for
 abbrev pub AreNamesOf : {Z : Type 0} → Tree → List (String Z) → Type 0
 AreNamesOf v names = (d : Tree) → IfSome (as_object d) (HasKeys names) ↔ Holds Required v d
+
+-- the value asks for what `const` with v asks for
+abbrev pub IsConstant : Tree → Value → Type 0
+IsConstant v value = (d : Tree) → Same d (tree value) ↔ Holds Const v d
+
+-- the document is equal to one of the values
+abbrev pub IsListed : Tree → List Value → Type 0
+IsListed d values = IsOneOf d (map tree values)
+
+-- the values ask for what `enum` with v asks for
+abbrev pub AreListed : Tree → List Value → Type 0
+AreListed v values = (d : Tree) → IsListed d values ↔ Holds Enum v d
 
 -- the number keeps the bound
 abbrev pub IsWithin : CompiledBound → Decimal → Type 0
@@ -99,6 +114,8 @@ limits_at Members c = c.members
 -- the document passes every check
 pub record Passes (c : Checks) (d : Tree) : Type 0 where
   pub types : IfSome c.types (λ set. AllowsType set d)
+  pub listed : IfSome c.listed (λ values. IsListed d values.items)
+  pub constant : IfSome c.constant (λ value. Same d (tree value))
   pub bounds : IfSome (as_number d) (KeepsAll c.bounds)
   pub code_points : IfSome (count_of CodePoints d) (IsBetween c.code_points)
   pub elements : IfSome (count_of Elements d) (IsBetween c.elements)
@@ -108,6 +125,8 @@ pub record Passes (c : Checks) (d : Tree) : Type 0 where
 -- nothing was compiled for the keyword yet
 abbrev pub IsFree : Keyword → Checks → Type 0
 IsFree «Type» c = c.types ≡ None
+IsFree Enum c = c.listed ≡ None
+IsFree Const c = c.constant ≡ None
 IsFree (Bound op) c = bound_at op c.bounds ≡ None
 IsFree (Least measure) c = (limits_at measure c).least ≡ None
 IsFree (Greatest measure) c = (limits_at measure c).greatest ≡ None
@@ -115,7 +134,7 @@ IsFree Required c = c.required ≡ None
 
 -- new checks what old checks, and what the keyword w with the value v asks
 pub record Adds (old : Checks) (w : Keyword) (v : Tree) (new : Checks) : Type 0 where
-  pub form : HasForm w v
+  pub suits : Suits w v
   pub passes : (d : Tree) → Passes new d ↔ (Passes old d × Holds w v d)
   pub frees : (u : Keyword) → (u ≡ w → ⊥) → IsFree u old → IsFree u new
 
@@ -123,37 +142,17 @@ pub record Adds (old : Checks) (w : Keyword) (v : Tree) (new : Checks) : Type 0 
 abbrev pub IsBadForm : ℕ → Type 0 → KeywordError → Type 0
 IsBadForm m F e = (e ≡ BadKeyword m) × (F → ⊥)
 
--- the keyword w of member number m has a value v with the fault e; memory is taken for the names that `required` lists alone
+-- the keyword w of member number m has a value v with the fault e
 abbrev pub AddFault : ℕ → Keyword → Tree → KeywordError → Type 0
 AddFault m w v NotAnObject = ⊥
 AddFault m w v (UnknownKeyword n) = ⊥
 AddFault m w v (BadKeyword n) = (n ≡ m) × (HasForm w v → ⊥)
+AddFault m w v (TooDeep n) = (n ≡ m) × HasForm w v × KeepsDeep w v
 AddFault m w v Unbuilt = ⊥
-AddFault m w v OutOfMemory = (w ≡ Required) × IsSome (as_array v)
+AddFault m w v OutOfMemory = TakesMemory w v
 
 -- the member p was taken in
 pub record Took (old : Checks) (p : List ℕ × Tree) (new : Checks) : Type 0 where
   pub fair : IsFair p
   pub passes : (d : Tree) → Passes new d ↔ (Passes old d × HoldsAt d p)
   pub frees : (u : Keyword) → (keyword_of p.0 ≡ Some u → ⊥) → IsFree u old → IsFree u new
-
--- member number m is p and has the fault e
-abbrev pub IsFault : ℕ → List ℕ × Tree → KeywordError → Type 0
-IsFault m p NotAnObject = ⊥
-IsFault m p (UnknownKeyword n) = (n ≡ m) × IsUnknown p
-IsFault m p (BadKeyword n) = (n ≡ m) × IsBad p
-IsFault m p Unbuilt = IsUnbuilt p
-IsFault m p OutOfMemory = ListsNames p
-
--- the keyword object t has no fault, and a document passes the checks c exactly where it is valid
-pub record IsCompiled (t : Tree) (c : Checks) : Type 0 where
-  pub valid : IsValid t
-  pub passes : (d : Tree) → Passes c d ↔ Verdict t d
-
--- the member p has no fault, and a document passes the checks c exactly where it meets p
-pub record IsCompiledMember (p : List ℕ × Tree) (c : Checks) : Type 0 where
-  pub fair : IsFair p
-  pub passes : (d : Tree) → Passes c d ↔ HoldsAt d p
-
-abbrev pub HasThisFault : Tree → KeywordError → Type 0
-HasThisFault t e = HasFault t (Some e)

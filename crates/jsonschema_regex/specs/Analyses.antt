@@ -4,8 +4,8 @@ use Rattle.std.specs.Str.{chars}
 use Rattle.std.specs.String.{string_bytes}
 use Rattle.std.specs.Cow.{cow_str_bytes}
 use Rattle.pattern_model.specs.Literals.{Analysis}
-use Rattle.jsonschema_regex.specs.declared.analysis.PatternAnalysis.{PatternAnalysis}
-use Rattle.jsonschema_regex.specs.declared.analysis.PatternAnalysis.TheVariants.{Prefix, Exact, Alternation, NoWhitespace}
+use Rattle.jsonschema_regex.specs.declared.pattern_analysis.PatternAnalysis.{PatternAnalysis}
+use Rattle.jsonschema_regex.specs.declared.pattern_analysis.PatternAnalysis.TheVariants.{Prefix, Exact, Alternation, NoWhitespace}
 
 abbrev pub analysis_of : PatternAnalysis → Analysis
 analysis_of (Prefix t) = Analysis.prefix (chars (cow_str_bytes t))

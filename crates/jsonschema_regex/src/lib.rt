@@ -27,21 +27,23 @@
 //! | `^\S*$` | `NoWhitespace` |
 //! | `foo`, `^foo.*`, `^(a)\|(b)$` | none: these are patterns, but not literal |
 //!
-//! [`laws`] says that each literal pattern is a pattern, and that its analysis hits a text exactly where the pattern's tree
-//! matches some part of the text. [`pattern_as_prefix`] gives the text of a `Prefix` alone, and [`is_ecma_whitespace`] and
+//! [`PatternAnalysis::hits`] asks a text. [`laws`] says that each literal pattern is a pattern, and that its analysis hits a text
+//! exactly where the pattern's tree matches some part of the text. [`pattern_as_prefix`] gives the text of a `Prefix` alone, and [`is_ecma_whitespace`] and
 //! [`contains_ecma_whitespace`] know the characters of `\s`.
 #![tactic(auto)]
 
 mod analysis;
 pub mod laws;
 mod literal;
+mod pattern_analysis;
 #[cfg(test)]
 mod tests;
 mod text;
 mod validity;
 mod whitespace;
 
-pub use analysis::{PatternAnalysis, analyze_pattern, pattern_as_prefix};
+pub use analysis::{analyze_pattern, pattern_as_prefix};
+pub use pattern_analysis::PatternAnalysis;
 pub use pattern_tree::OutOfMemory;
 pub use validity::is_valid_ecma_regex;
 pub use whitespace::{contains_ecma_whitespace, is_ecma_whitespace};

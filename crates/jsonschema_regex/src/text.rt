@@ -34,3 +34,10 @@ pub(crate) fn is(text: &str, other: &str) -> bool
 {
     text == other
 }
+
+/// Whether a text begins with another.
+pub(crate) fn begins(text: &str, front: &str) -> bool
+    ensures { IsTrue result ↔ ((rest : Text) × (chars text.now ≡ chars front.now ++ rest)) }
+{
+    text.starts_with(front)
+}

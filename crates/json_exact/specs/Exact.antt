@@ -1,6 +1,6 @@
 -- What contracts see of a `Decimal`: the whole number of parts that it is, of which 10 ^ 16383 make one. This project's
 -- own. The number notation itself is that of RFC 8259, section 6.
-use Rattle.std.specs.Prelude.{◌≡◌, ℕ, ◌*◌, ◌^◌, ◌<◌, Bool, ℤ, pos, ◌*ℤ◌, neg_ℤ, nat_abs, if◌then◌else◌}
+use Rattle.std.specs.Prelude.{◌≡◌, ℕ, ◌*◌, ◌^◌, ◌<◌, ℤ, pos, ◌*ℤ◌, nat_abs}
 use Rattle.json_model.specs.Decimal.{Decimal as Written, HasNarrowDigits}
 
 -- how many parts make one

@@ -9,7 +9,7 @@ use Rattle.json_model.specs.Parts.{lookup}
 use Rattle.json_model.specs.Tree.{Tree, boolean, null, number, scalar}
 use Rattle.json_exact.specs.Literal.{IsLiteral}
 use Rattle.json_exact.specs.Parsed.{IsNumber, IsNoLiteral, IsTooWide, IsOutOfRange}
-use Rattle.json_exact.specs.Reading.{Parts, literal_of, with_whole, with_fraction, with_exponent, minus_of, whole_of, is_whole_part, fraction_of, some_digits_of, exponent_of, exponent_sign_of, size_of}
+use Rattle.json_exact.specs.Reading.{Parts, literal_of, with_whole, with_fraction, with_exponent, minus_of, whole_of, is_whole_part, fraction_of, some_digits_of, exponent_of}
 use Rattle.json_exact.specs.Trees.{Pairs, tree}
 use Rattle.json_exact.specs.declared.number_error.NumberError.{NumberError}
 use Rattle.json_exact.specs.declared.number_error.NumberError.TheVariants.{NotANumber, TooWide, OutOfRange}
@@ -40,8 +40,8 @@ no_refusal TooWide r text n is a b c = not_refused TooWide text n (b.0 is)
 no_refusal OutOfRange r text n is a b c = not_refused OutOfRange text n (c.0 is)
 
 -- a literal of a small number is a number
-small : (text : List ℕ) (p : Parts) (w : Written) (n : ℕ) → literal_of text ≡ Some p → written_of p ≡ w → w.digits ≡ pos n → n < 100 → w.places ≤ 16383 →
-    IsNumber text w
+small : (text : List ℕ) (p : Parts) (w : Written) (n : ℕ) → literal_of text ≡ Some p → written_of p ≡ w → w.digits ≡ pos n → n < 100 →
+    w.places ≤ 16383 → IsNumber text w
 small text p w n e f g lt le =
     let size : nat_abs w.digits ≡ n = ap nat_abs g in
     let wide : 10 ^ 2 ≤ 10 ^ (38 + 0) = power_mono 10 2 (38 + 0) (omega arith) (omega arith) in
@@ -54,42 +54,42 @@ small text p w n e f g lt le =
 
 -- the literals of the document
 one_reads : literal_of (codes "1") ≡ Some (record { negative = false; whole = 49 ∷ []; fraction = []; exponent = (false, 0) })
-unfolding literal_of with_whole with_fraction with_exponent minus_of whole_of is_whole_part fraction_of some_digits_of exponent_of exponent_sign_of size_of
+unfolding literal_of with_whole with_fraction with_exponent minus_of whole_of is_whole_part fraction_of some_digits_of exponent_of
 one_reads = refl
 
 pub one : IsNumber (codes "1") (whole (pos 1))
 one = small (codes "1") _ (whole (pos 1)) 1 one_reads refl refl (omega arith) (omega arith)
 
 ten_reads : literal_of (codes "10") ≡ Some (record { negative = false; whole = 49 ∷ 48 ∷ []; fraction = []; exponent = (false, 0) })
-unfolding literal_of with_whole with_fraction with_exponent minus_of whole_of is_whole_part fraction_of some_digits_of exponent_of exponent_sign_of size_of
+unfolding literal_of with_whole with_fraction with_exponent minus_of whole_of is_whole_part fraction_of some_digits_of exponent_of
 ten_reads = refl
 
 pub ten : IsNumber (codes "10") (whole (pos 10))
 ten = small (codes "10") _ (whole (pos 10)) 10 ten_reads refl refl (omega arith) (omega arith)
 
 twenty_reads : literal_of (codes "20") ≡ Some (record { negative = false; whole = 50 ∷ 48 ∷ []; fraction = []; exponent = (false, 0) })
-unfolding literal_of with_whole with_fraction with_exponent minus_of whole_of is_whole_part fraction_of some_digits_of exponent_of exponent_sign_of size_of
+unfolding literal_of with_whole with_fraction with_exponent minus_of whole_of is_whole_part fraction_of some_digits_of exponent_of
 twenty_reads = refl
 
 pub twenty : IsNumber (codes "20") (whole (pos 20))
 twenty = small (codes "20") _ (whole (pos 20)) 20 twenty_reads refl refl (omega arith) (omega arith)
 
 thirty_reads : literal_of (codes "30") ≡ Some (record { negative = false; whole = 51 ∷ 48 ∷ []; fraction = []; exponent = (false, 0) })
-unfolding literal_of with_whole with_fraction with_exponent minus_of whole_of is_whole_part fraction_of some_digits_of exponent_of exponent_sign_of size_of
+unfolding literal_of with_whole with_fraction with_exponent minus_of whole_of is_whole_part fraction_of some_digits_of exponent_of
 thirty_reads = refl
 
 pub thirty : IsNumber (codes "30") (whole (pos 30))
 thirty = small (codes "30") _ (whole (pos 30)) 30 thirty_reads refl refl (omega arith) (omega arith)
 
 forty_two_reads : literal_of (codes "42") ≡ Some (record { negative = false; whole = 52 ∷ 50 ∷ []; fraction = []; exponent = (false, 0) })
-unfolding literal_of with_whole with_fraction with_exponent minus_of whole_of is_whole_part fraction_of some_digits_of exponent_of exponent_sign_of size_of
+unfolding literal_of with_whole with_fraction with_exponent minus_of whole_of is_whole_part fraction_of some_digits_of exponent_of
 forty_two_reads = refl
 
 pub forty_two : IsNumber (codes "42") (whole (pos 42))
 forty_two = small (codes "42") _ (whole (pos 42)) 42 forty_two_reads refl refl (omega arith) (omega arith)
 
 half_reads : literal_of (codes "1.5") ≡ Some (record { negative = false; whole = 49 ∷ []; fraction = 53 ∷ []; exponent = (false, 0) })
-unfolding literal_of with_whole with_fraction with_exponent minus_of whole_of is_whole_part fraction_of some_digits_of exponent_of exponent_sign_of size_of
+unfolding literal_of with_whole with_fraction with_exponent minus_of whole_of is_whole_part fraction_of some_digits_of exponent_of
 half_reads = refl
 
 pub one_and_a_half : IsNumber (codes "1.5") (record { digits = pos 15; places = 1 })
@@ -123,7 +123,8 @@ three_built r a b c t u v h e f g =
     (subst (λ (y : Tree). IfOk r (λ x. tree x ≡ three a y v)) f (subst (λ (y : Tree). IfOk r (λ x. tree x ≡ three a b y)) g h))
 
 -- the members that are looked up as those of the document are those
-pub the_list : (ps : Pairs) → rises (map (λ (p : List ℕ × Tree). p.0) ps) ≡ true → ((k : List ℕ) → lookup k ps ≡ lookup k the_members) → ps ≡ the_members
+pub the_list : (ps : Pairs) → rises (map (λ (p : List ℕ × Tree). p.0) ps) ≡ true → ((k : List ℕ) → lookup k ps ≡ lookup k the_members) →
+    ps ≡ the_members
 unfolding the_members
 the_list ps e h = one_list ps the_members e refl h
 

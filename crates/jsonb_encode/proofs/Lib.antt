@@ -1,0 +1,10 @@
+pub mod Opened
+pub mod Digits
+pub mod Places
+pub mod Spans
+pub mod Written
+pub mod Numbers
+pub mod Roots
+pub mod NumberStands
+pub mod TreeStands
+pub mod RawKeys

@@ -1,0 +1,5 @@
+pub mod Number
+pub mod Encoded
+pub mod Limits
+pub mod Varlena
+pub mod inner

@@ -1,0 +1,2 @@
+-- What a user need not believe: words for the code.
+pub mod Writing

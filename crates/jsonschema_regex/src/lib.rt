@@ -27,7 +27,7 @@
 //! | `^\S*$` | `NoWhitespace` |
 //! | `foo`, `^foo.*`, `^(a)\|(b)$` | none: these are patterns, but not literal |
 //!
-//! [`PatternAnalysis::hits`] asks a text. [`laws`] says that each literal pattern is a pattern, and that its analysis hits a text
+//! A [`LiteralPattern`] keeps an analysis and asks texts. [`laws`] says that each literal pattern is a pattern, and that its analysis hits a text
 //! exactly where the pattern's tree matches some part of the text. [`pattern_as_prefix`] gives the text of a `Prefix` alone, and [`is_ecma_whitespace`] and
 //! [`contains_ecma_whitespace`] know the characters of `\s`.
 #![tactic(auto)]
@@ -35,6 +35,7 @@
 mod analysis;
 pub mod laws;
 mod literal;
+mod literal_pattern;
 mod pattern_analysis;
 #[cfg(test)]
 mod tests;
@@ -43,6 +44,7 @@ mod validity;
 mod whitespace;
 
 pub use analysis::{analyze_pattern, pattern_as_prefix};
+pub use literal_pattern::LiteralPattern;
 pub use pattern_analysis::PatternAnalysis;
 pub use pattern_tree::OutOfMemory;
 pub use validity::is_valid_ecma_regex;

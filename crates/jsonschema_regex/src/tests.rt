@@ -1,4 +1,5 @@
 use crate::analysis::{analyze_pattern, pattern_as_prefix};
+use crate::literal_pattern::LiteralPattern;
 use crate::validity::is_valid_ecma_regex;
 use crate::whitespace::contains_ecma_whitespace;
 use pattern_tree::OutOfMemory;
@@ -119,53 +120,60 @@ fn deep_and_wide_patterns(rt: HostRuntime) {
 #[test]
 fn literal_patterns_and_others(rt: HostRuntime) {
     let table = [
-        ("^", "Some(Prefix(\"\"))", "Some(\"\")"),
-        ("^$", "Some(Exact(\"\"))", "None"),
-        ("^()$", "Some(Alternation([\"\"]))", "None"),
-        ("^a\\.b", "Some(Prefix(\"a.b\"))", "Some(\"a.b\")"),
-        ("^a/_-Z9$", "Some(Exact(\"a/_-Z9\"))", "None"),
-        ("^\\$ref", "Some(Prefix(\"$ref\"))", "Some(\"$ref\")"),
-        ("^\\$ref$", "Some(Exact(\"$ref\"))", "None"),
-        (
-            "^(c|a|b|a)$",
-            "Some(Alternation([\"a\", \"a\", \"b\", \"c\"]))",
-            "None",
-        ),
-        ("^(\\/|)$", "Some(Alternation([\"\", \"/\"]))", "None"),
-        ("^\\S*$", "Some(NoWhitespace)", "None"),
-        ("", "None", "None"),
-        ("foo", "None", "None"),
-        ("^foo.*", "None", "None"),
-        ("^(a)|(b)$", "None", "None"),
-        ("^(a", "None", "None"),
-        ("^(a)", "None", "None"),
-        ("^a|b", "None", "None"),
-        ("^a$b", "None", "None"),
-        ("^a\\", "None", "None"),
-        ("^\\d", "None", "None"),
-        ("^\\S*", "None", "None"),
-        ("^é", "None", "None"),
+        ("^", "Some(Prefix(\"\"))"),
+        ("^$", "Some(Exact(\"\"))"),
+        ("^()$", "Some(Alternation([\"\"]))"),
+        ("^a\\.b", "Some(Prefix(\"a.b\"))"),
+        ("^(c|a|b|a)$", "Some(Alternation([\"a\", \"a\", \"b\", \"c\"]))"),
+        ("^\\S*$", "Some(NoWhitespace)"),
+        ("^foo.*", "None"),
+        ("^(a)|(b)$", "None"),
+        ("foo", "None"),
+        ("^a$b", "None"),
     ];
     let alloc = rt.alloc();
-    for (pattern, analysis, prefix) in table {
-        match (
-            analyze_pattern(alloc, pattern),
-            pattern_as_prefix(alloc, pattern),
-        ) {
-            (Ok(found), Ok(text)) => {
-                assert_eq!(rt;
-                    format!(in alloc; "{found:?}").as_deref(),
-                    Ok(analysis),
-                    "{pattern}"
-                );
-                assert_eq!(rt;
-                    format!(in alloc; "{text:?}").as_deref(),
-                    Ok(prefix),
-                    "{pattern}"
-                );
+    for (pattern, expected) in table {
+        match analyze_pattern(alloc, pattern) {
+            Ok(found) => {
+                assert_eq!(rt; format!(in alloc; "{found:?}").as_deref(), Ok(expected), "{pattern}");
             }
-            _ => panic!(rt; "out of memory at {pattern}"),
+            Err(_) => panic!(rt; "out of memory at {pattern}"),
         }
+    }
+}
+
+#[test]
+fn prefixes(rt: HostRuntime) {
+    let alloc = rt.alloc();
+    for (pattern, expected) in [("^\\$ref", Some("$ref")), ("^\\$ref$", None)] {
+        match pattern_as_prefix(alloc, pattern) {
+            Ok(Some(text)) => assert_eq!(rt; Some(text.as_str()), expected, "{pattern}"),
+            Ok(None) => assert_eq!(rt; None, expected, "{pattern}"),
+            Err(_) => panic!(rt; "out of memory at {pattern}"),
+        }
+    }
+}
+
+/// Whether a literal pattern hits a text; None where the pattern is not literal.
+fn hits(alloc: Global, pattern: &str, text: &str) -> Result<Option<bool>, OutOfMemory> {
+    match analyze_pattern(alloc, pattern)? {
+        Some(analysis) => Ok(Some(LiteralPattern::keep(alloc, analysis)?.hits(text))),
+        None => Ok(None),
+    }
+}
+
+#[test]
+fn kept_patterns_and_texts(rt: HostRuntime) {
+    let table = [
+        ("^a", "ab", true),
+        ("^a", "ba", false),
+        ("^a$", "ab", false),
+        ("^(b|a)$", "a", true),
+        ("^\\S*$", "a\u{feff}", false),
+    ];
+    let alloc = rt.alloc();
+    for (pattern, text, expected) in table {
+        assert_eq!(rt; hits(alloc, pattern, text), Ok(Some(expected)), "{pattern}");
     }
 }
 

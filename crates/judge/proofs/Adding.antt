@@ -8,14 +8,15 @@ use Rattle.json_model.specs.Tree.{Tree}
 use Rattle.json_semantics.specs.Bounds.{Keeps}
 use Rattle.json_semantics.specs.declared.numeric_check.BoundOp.{BoundOp}
 use Rattle.json_semantics.specs.declared.numeric_check.CompiledBound.{CompiledBound}
+use Rattle.jsonschema_regex.specs.declared.literal_pattern.LiteralPattern.{LiteralPattern}
 use Rattle.judge.proofs.NameLists.{if_both}
-use Rattle.judge.specs.inner.Passes.{Adds, AreListed, HasRoom, IsBoundOf, IsFree, IsLimitOf, IsWithin, KeepsAll, Meets, Passes, bound_at, limits_at}
+use Rattle.judge.specs.inner.Passes.{Adds, AreListed, HasRoom, IsBoundOf, IsFree, IsLimitOf, IsPatternOf, IsWithin, KeepsAll, Meets, Passes, bound_at, limits_at}
 use Rattle.judge.specs.Validity.{IsCount, Suits}
 use Rattle.judge.specs.Verdict.{Holds, IsUpTo, Reaches, count_of}
 use Rattle.judge.specs.declared.bounds.Bounds.{Bounds}
 use Rattle.judge.specs.declared.checks.Checks.{Checks}
 use Rattle.judge.specs.declared.keyword.Keyword.{Keyword}
-use Rattle.judge.specs.declared.keyword.Keyword.TheVariants.{«Type», Enum, Const, Bound, Least, Greatest, Required}
+use Rattle.judge.specs.declared.keyword.Keyword.TheVariants.{«Type», Enum, Const, Bound, Least, Greatest, Pattern, Required}
 use Rattle.judge.specs.declared.keyword.Measure.{Measure}
 use Rattle.judge.specs.declared.keyword.Measure.TheVariants.{CodePoints, Elements, Members}
 use Rattle.judge.specs.declared.limits.Limit.{Limit}
@@ -43,7 +44,7 @@ module _ (old : Checks) (v : Tree) where
       → ((o : BoundOp) → (o ≡ b.op → ⊥) → bound_at o bounds ≡ bound_at o old.bounds)
       → Adds old (Bound op) v (record old { bounds = bounds })
   adds_bound op bounds b is kept free = record {
-    suits = record { form = there (as_number v) (IsBoundOf op b) is; not_deep = λ h. h };
+    suits = record { form = there (as_number v) (IsBoundOf op b) is; pattern = λ h. h; literal = λ h. h; not_deep = λ h. h };
     passes = λ d. (
       λ h. (let k = split d h.bounds in (
         record {
@@ -54,6 +55,7 @@ module _ (old : Checks) (v : Tree) where
           code_points = h.code_points;
           elements = h.elements;
           members = h.members;
+          pattern = h.pattern;
           required = h.required;
         },
         (holds d).0 k.1,
@@ -66,6 +68,7 @@ module _ (old : Checks) (v : Tree) where
         code_points = h.0.code_points;
         elements = h.0.elements;
         members = h.0.members;
+        pattern = h.0.pattern;
         required = h.0.required;
       },
     );
@@ -110,6 +113,7 @@ module _ (old : Checks) (v : Tree) where
       others (Bound o) other h = free o (λ e. other (ap (λ (p : BoundOp). let k : Keyword = Bound p in k) (e ∙ same.1))) ∙ h
       others (Least measure) other h = ap (λ (l : Limits). l.least) (same_limits measure) ∙ h
       others (Greatest measure) other h = ap (λ (l : Limits). l.greatest) (same_limits measure) ∙ h
+      others Pattern other h = h
       others Required other h = h
 
   -- a list of values that was kept
@@ -127,6 +131,7 @@ module _ (old : Checks) (v : Tree) where
           code_points = h.code_points;
           elements = h.elements;
           members = h.members;
+          pattern = h.pattern;
           required = h.required;
         },
         (is d).0 h.listed,
@@ -139,6 +144,7 @@ module _ (old : Checks) (v : Tree) where
         code_points = h.0.code_points;
         elements = h.0.elements;
         members = h.0.members;
+        pattern = h.0.pattern;
         required = h.0.required;
       },
     );
@@ -157,6 +163,57 @@ module _ (old : Checks) (v : Tree) where
       others (Bound o) other h = h
       others (Least measure) other h = ap (λ (l : Limits). l.least) (same_limits measure) ∙ h
       others (Greatest measure) other h = ap (λ (l : Limits). l.greatest) (same_limits measure) ∙ h
+      others Pattern other h = h
+      others Required other h = h
+
+  -- a pattern that was kept
+  pub adds_pattern : (a : LiteralPattern) → IsFree Pattern old → Suits Pattern v → IsPatternOf v a
+      → Adds old Pattern v (record old { pattern = Some a })
+  adds_pattern a free suits is = record {
+    suits = suits;
+    passes = λ d. (
+      λ h. (
+        record {
+          types = h.types;
+          listed = h.listed;
+          constant = h.constant;
+          bounds = h.bounds;
+          code_points = h.code_points;
+          elements = h.elements;
+          members = h.members;
+          pattern = rw free tt;
+          required = h.required;
+        },
+        (is d).0 h.pattern,
+      ),
+      λ h. record {
+        types = h.0.types;
+        listed = h.0.listed;
+        constant = h.0.constant;
+        bounds = h.0.bounds;
+        code_points = h.0.code_points;
+        elements = h.0.elements;
+        members = h.0.members;
+        pattern = (is d).1 h.1;
+        required = h.0.required;
+      },
+    );
+    frees = others;
+  }
+    where
+      same_limits : (measure : Measure) → limits_at measure (record old { pattern = Some a }) ≡ limits_at measure old
+      same_limits CodePoints = refl
+      same_limits Elements = refl
+      same_limits Members = refl
+
+      others : (u : Keyword) → (u ≡ Pattern → ⊥) → IsFree u old → IsFree u (record old { pattern = Some a })
+      others «Type» other h = h
+      others Enum other h = h
+      others Const other h = h
+      others (Bound o) other h = h
+      others (Least measure) other h = ap (λ (l : Limits). l.least) (same_limits measure) ∙ h
+      others (Greatest measure) other h = ap (λ (l : Limits). l.greatest) (same_limits measure) ∙ h
+      others Pattern other h = absurd (other refl)
       others Required other h = h
 
   module _ (measure : Measure) (limit : Limit) (new : Checks) (is : IsSomeAnd (as_number v) (λ m. IsCount m × IsLimitOf limit m)) where
@@ -167,7 +224,7 @@ module _ (old : Checks) (v : Tree) where
     pub adds_least : ((d : Tree) → Passes new d ↔ (Passes old d × IfSome (count_of measure d) (Meets limit)))
         → ((u : Keyword) → (u ≡ Least measure → ⊥) → IsFree u old → IsFree u new) → Adds old (Least measure) v new
     adds_least passes frees = record {
-      suits = record { form = form; not_deep = λ h. h };
+      suits = record { form = form; pattern = λ h. h; literal = λ h. h; not_deep = λ h. h };
       passes = λ d. (λ h. (let p = (passes d).0 h in (p.0, (holds d).0 p.1)), λ h. (passes d).1 (h.0, (holds d).1 h.1));
       frees = frees;
     }
@@ -182,7 +239,7 @@ module _ (old : Checks) (v : Tree) where
     pub adds_greatest : ((d : Tree) → Passes new d ↔ (Passes old d × IfSome (count_of measure d) (HasRoom limit)))
         → ((u : Keyword) → (u ≡ Greatest measure → ⊥) → IsFree u old → IsFree u new) → Adds old (Greatest measure) v new
     adds_greatest passes frees = record {
-      suits = record { form = form; not_deep = λ h. h };
+      suits = record { form = form; pattern = λ h. h; literal = λ h. h; not_deep = λ h. h };
       passes = λ d. (λ h. (let p = (passes d).0 h in (p.0, (holds d).0 p.1)), λ h. (passes d).1 (h.0, (holds d).1 h.1));
       frees = frees;
     }

@@ -57,11 +57,13 @@ module _ {X : Type 0} (k d : List ℕ) where
     memory_alone keyword.NotAnObject h = absurd cc
     memory_alone (keyword.UnknownKeyword m) h = absurd cc
     memory_alone (keyword.BadKeyword m) h = absurd cc
+    memory_alone (keyword.BadPattern m) h = absurd cc
+    memory_alone (keyword.PatternNotLiteral m) h = absurd cc
     memory_alone (keyword.TooDeep m) h = absurd cc
     memory_alone keyword.Unbuilt h = absurd cc
     memory_alone keyword.OutOfMemory h = refl
 
-    -- where the keywords are refused and nest at most one level, without `const`, it is not for want of memory
+    -- where the keywords are refused and nest at most one level, without `const` and `pattern`, it is not for want of memory
     pub keyword_refused_with_memory : (e : KeywordError) (x : JudgeError) → x ≡ keyword_error e
         → (nest t ≤ 1 → IsLean t → ◌≡◌ {A = Result Checks KeywordError} (Err e) (Err keyword.OutOfMemory) → ⊥)
         → (u : Tree) → Stands k u → nest u ≤ 1 → IsLean u → ◌≡◌ {A = Answer} (Err x) (Err judged.OutOfMemory) → ⊥

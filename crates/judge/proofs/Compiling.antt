@@ -11,14 +11,14 @@ use Rattle.json_traits.proofs.GivesLaws.{AtItem}
 use Rattle.judge.specs.Names.{keyword_of}
 use Rattle.judge.specs.Compiled.{IsFault, IsCompiled, HasThisFault}
 use Rattle.judge.specs.inner.Passes.{Passes, IsFree, Adds, Took, AddFault}
-use Rattle.judge.specs.Validity.{IsBad, IsCopied, IsFair, IsFirst, IsLean, IsTooDeep, IsUnbuilt, IsUnknown, TakesMemory}
+use Rattle.judge.specs.Validity.{IsBad, IsBadPattern, IsCopied, IsFair, IsFirst, IsLean, IsNotLiteral, IsTooDeep, IsUnbuilt, IsUnknown, TakesMemory}
 use Rattle.judge.specs.Verdict.{Holds, HoldsAt}
 use Rattle.judge.specs.declared.checks.Checks.{Checks}
 use Rattle.judge.specs.declared.errors.KeywordError.{KeywordError}
-use Rattle.judge.specs.declared.errors.KeywordError.TheVariants.{NotAnObject, UnknownKeyword, BadKeyword, TooDeep, Unbuilt, OutOfMemory}
+use Rattle.judge.specs.declared.errors.KeywordError.TheVariants.{NotAnObject, UnknownKeyword, BadKeyword, BadPattern, PatternNotLiteral, TooDeep, Unbuilt, OutOfMemory}
 use Rattle.judge.specs.declared.keyword.Keyword.{Keyword}
 use Rattle.judge.proofs.KeywordNames.{one_name}
-use Rattle.judge.specs.declared.keyword.Keyword.TheVariants.{«Type», Enum, Const, Bound, Least, Greatest, Required}
+use Rattle.judge.specs.declared.keyword.Keyword.TheVariants.{«Type», Enum, Const, Bound, Least, Greatest, Pattern, Required}
 use Rattle.json_model.proofs.KeyOrderLaws.{rises_all, rises_tail, not_before}
 
 abbrev pub Pair : Type 0
@@ -73,6 +73,8 @@ pub refused : (m : ℕ) (w : Keyword) (p : Pair) (e : KeywordError) → keyword_
 refused m w p NotAnObject is f = f
 refused m w p (UnknownKeyword n) is f = absurd f
 refused m w p (BadKeyword n) is f = (f.0, rw is f.1)
+refused m w p (BadPattern n) is f = (f.0, rw is f.1)
+refused m w p (PatternNotLiteral n) is f = (f.0, rw is f.1)
 refused m w p (TooDeep n) is f = (f.0, rw is (f.1, f.2))
 refused m w p Unbuilt is f = absurd f
 refused m w p OutOfMemory is f = rw is f
@@ -95,14 +97,15 @@ list_nests (scalar x) h = absurd cc
 list_nests (array ts) h = omega arith
 list_nests (object ms) h = absurd cc
 
--- but for `const`, a keyword takes memory for a list alone
-list_alone : (w : Keyword) (v : Tree) → (w ≡ Const → ⊥) → TakesMemory w v → 1 ≤ nest v
+-- but for `const` and `pattern`, a keyword takes memory for a list alone
+list_alone : (w : Keyword) (v : Tree) → (w ≡ Const → ⊥) × (w ≡ Pattern → ⊥) → TakesMemory w v → 1 ≤ nest v
 list_alone «Type» v other h = absurd h
 list_alone Enum v other h = list_nests v h
-list_alone Const v other h = absurd (other refl)
+list_alone Const v other h = absurd (other.0 refl)
 list_alone (Bound op) v other h = absurd h
 list_alone (Least measure) v other h = absurd h
 list_alone (Greatest measure) v other h = absurd h
+list_alone Pattern v other h = absurd (other.1 refl)
 list_alone Required v other h = list_nests v h
 
 -- what holds of all holds at a place
@@ -153,6 +156,8 @@ module _ (t : Tree) (checks : Checks) (k : ℕ) (p : Pair) (at : AtItem (pairs_o
   stops m NotAnObject is f = absurd f
   stops m (UnknownKeyword n) is f = inr (subst (λ (i : ℕ). IsFirst t i IsUnknown) (sym (f.0 ∙ is)) (first_here IsUnknown f.1))
   stops m (BadKeyword n) is f = inr (subst (λ (i : ℕ). IsFirst t i IsBad) (sym (f.0 ∙ is)) (first_here IsBad f.1))
+  stops m (BadPattern n) is f = inr (subst (λ (i : ℕ). IsFirst t i IsBadPattern) (sym (f.0 ∙ is)) (first_here IsBadPattern f.1))
+  stops m (PatternNotLiteral n) is f = inr (subst (λ (i : ℕ). IsFirst t i IsNotLiteral) (sym (f.0 ∙ is)) (first_here IsNotLiteral f.1))
   stops m (TooDeep n) is f = inr (subst (λ (i : ℕ). IsFirst t i IsTooDeep) (sym (f.0 ∙ is)) (first_here IsTooDeep f.1))
   stops m Unbuilt is f = inr (k, first_here IsUnbuilt f)
   stops m OutOfMemory is f = inl refl
@@ -163,16 +168,20 @@ module _ (t : Tree) (checks : Checks) (k : ℕ) (p : Pair) (at : AtItem (pairs_o
   stops_at_copied m NotAnObject f h = absurd cc
   stops_at_copied m (UnknownKeyword n) f h = absurd cc
   stops_at_copied m (BadKeyword n) f h = absurd cc
+  stops_at_copied m (BadPattern n) f h = absurd cc
+  stops_at_copied m (PatternNotLiteral n) f h = absurd cc
   stops_at_copied m (TooDeep n) f h = absurd cc
   stops_at_copied m Unbuilt f h = absurd cc
   stops_at_copied m OutOfMemory f h = (k, first_here IsCopied f)
 
-  -- so it never is where no value is a container, and none is that of `const`
+  -- so it never is where no value is a container, and none is that of `const` or `pattern`
   pub stops_with_memory : (m : ℕ) (e : KeywordError) → IsFault m p e → nest t ≤ 1 → IsLean t
       → ◌≡◌ {A = Result Checks KeywordError} (Err e) (Err OutOfMemory) → ⊥
   stops_with_memory m NotAnObject f le lean h = cc
   stops_with_memory m (UnknownKeyword n) f le lean h = cc
   stops_with_memory m (BadKeyword n) f le lean h = cc
+  stops_with_memory m (BadPattern n) f le lean h = cc
+  stops_with_memory m (PatternNotLiteral n) f le lean h = cc
   stops_with_memory m (TooDeep n) f le lean h = cc
   stops_with_memory m Unbuilt f le lean h = cc
   stops_with_memory m OutOfMemory f le lean h = go (keyword_of p.0) refl f
@@ -180,9 +189,10 @@ module _ (t : Tree) (checks : Checks) (k : ℕ) (p : Pair) (at : AtItem (pairs_o
       go : (o : Option Keyword) → keyword_of p.0 ≡ o → IsSomeAnd o (λ w. TakesMemory w p.1) → ⊥
       go None e c = c
       go (Some w) e c =
-          let never = at_each (λ (q : Pair). keyword_of q.0 ≡ Some Const → ⊥) (pairs_of t) k p lean at.here in
+          let never = at_each (λ (q : Pair). (keyword_of q.0 ≡ Some Const → ⊥) × (keyword_of q.0 ≡ Some Pattern → ⊥)) (pairs_of t) k p lean at.here in
           let lt = value_nests t k p at.here in
-          let some = list_alone w p.1 (λ is. never (e ∙ ap (λ (v : Keyword). let o : Option Keyword = Some v in o) is)) c in
+          let named : (u : Keyword) → w ≡ u → keyword_of p.0 ≡ Some u = λ u is. e ∙ ap (λ (v : Keyword). let o : Option Keyword = Some v in o) is in
+          let some = list_alone w p.1 (λ is. never.0 (named Const is), λ is. never.1 (named Pattern is)) c in
           omega arith
 
 pub ends : (t : Tree) (checks : Checks) (k : ℕ) → length (pairs_of t) ≤ k → Walked t checks k → IsCompiled t checks

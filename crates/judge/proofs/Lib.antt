@@ -13,6 +13,8 @@ pub mod LineAnswers
 pub mod NameLists
 pub mod OneAnswer
 pub mod Pairs
+pub mod PatternFaults
+pub mod PatternVerdicts
 pub mod Runs
 pub mod SameVerdict
 pub mod SomeAnswer

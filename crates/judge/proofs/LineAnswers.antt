@@ -11,7 +11,7 @@ use Rattle.judge.specs.Answers.{IsJudged, IsPair, LineAnswer, fault_name, name_o
 use Rattle.judge.specs.Lines.{Lacks}
 use Rattle.judge.specs.Right.{Answer, Right, RightFrom, RightOf, RightWith}
 use Rattle.judge.specs.Validity.{HasFault}
-use Rattle.judge.specs.declared.errors.JudgeError.TheVariants.{Keywords, NotAnObject, UnknownKeyword, BadKeyword, TooDeep, Document, Unbuilt, OutOfMemory}
+use Rattle.judge.specs.declared.errors.JudgeError.TheVariants.{Keywords, NotAnObject, UnknownKeyword, BadKeyword, BadPattern, PatternNotLiteral, TooDeep, Document, Unbuilt, OutOfMemory}
 use Rattle.judge.specs.declared.errors.KeywordError.{KeywordError}
 use Rattle.judge.specs.declared.errors.KeywordError.TheVariants as keyword
 use Rattle.judge.proofs.OneAnswer.{one_answer}
@@ -68,6 +68,8 @@ memory_with : (t : Tree) (f : Option KeywordError) (d : List ℕ) → HasFault t
 memory_with t (Some keyword.NotAnObject) d h is = cc
 memory_with t (Some (keyword.UnknownKeyword m)) d h is = cc
 memory_with t (Some (keyword.BadKeyword m)) d h is = cc
+memory_with t (Some (keyword.BadPattern m)) d h is = cc
+memory_with t (Some (keyword.PatternNotLiteral m)) d h is = cc
 memory_with t (Some (keyword.TooDeep m)) d h is = cc
 memory_with t (Some keyword.Unbuilt) d h is = cc
 memory_with t (Some keyword.OutOfMemory) d h is = h
@@ -92,6 +94,8 @@ named k d (Err (Keywords fault)) h = (codes "Keywords(" ++ fault_name fault ++ c
 named k d (Err NotAnObject) h = (codes "NotAnObject", refl)
 named k d (Err (UnknownKeyword member)) h = (codes "UnknownKeyword", refl)
 named k d (Err (BadKeyword member)) h = (codes "BadKeyword", refl)
+named k d (Err (BadPattern member)) h = (codes "BadPattern", refl)
+named k d (Err (PatternNotLiteral member)) h = (codes "PatternNotLiteral", refl)
 named k d (Err (TooDeep member)) h = (codes "TooDeep", refl)
 named k d (Err (Document fault)) h = (codes "Document(" ++ fault_name fault ++ codes ")", refl)
 named k d (Err Unbuilt) h = (codes "Unbuilt", refl)

@@ -8,11 +8,12 @@ use Rattle.jsonb.specs.declared.error.JsonbError.{JsonbError}
 use Rattle.jsonb.proofs.OneRead.{one_read}
 use Rattle.judge.specs.Names.{keyword_of, to_come}
 use Rattle.judge.specs.Verdict.{Verdict}
-use Rattle.judge.specs.Validity.{HasFault, HasForm, IsBad, IsFair, IsFirst, IsToCome, IsTooDeep, IsUnbuilt, IsUnknown, KeepsDeep, Suits}
+use Rattle.judge.specs.Validity.{HasFault, HasForm, IsBad, IsBadPattern, IsFair, IsFirst, IsNoPattern, IsNotLiteral, IsToCome, IsTooDeep, IsUnbuilt, IsUnknown, KeepsDeep, NeedsEngine, Suits}
 use Rattle.judge.specs.declared.errors.KeywordError.{KeywordError}
 use Rattle.judge.specs.declared.errors.KeywordError.TheVariants as keyword
 use Rattle.judge.specs.declared.keyword.Keyword.{Keyword}
 use Rattle.judge.specs.Right.{Answer, RightOf, RightWith, RightFrom, Right, RightOnTrees}
+use Rattle.judge.proofs.PatternFaults.{decided_engine, decided_no_pattern, deep_alone, deep_no_engine, needs_engine_form, no_pattern_form, one_of_both}
 use Rattle.judge.proofs.Decided.{Decided, decided_true}
 use Rattle.judge.proofs.SomeFault.{decided_deep, decided_form}
 
@@ -37,17 +38,23 @@ Fault = Option KeywordError
 abbrev fault : KeywordError → Fault
 fault e = Some e
 
--- the fault of member number m, by what is decided of its value: that it has its keyword's form, and that it nests too deep
-abbrev by_value : {F D : Type 0} → Decided F → Decided D → ℕ → Fault
-by_value (inl form) (inl deep) m = Some (keyword.TooDeep m)
-by_value (inl form) (inr not_deep) m = None
-by_value (inr no_form) d m = Some (keyword.BadKeyword m)
+-- The fault of member number m, by what is decided of its value: that it has its keyword's form, that it is no pattern, that it
+-- needs an engine, and that it nests too deep.
+abbrev by_value : {F N E D : Type 0} → Decided F → Decided N → Decided E → Decided D → ℕ → Fault
+by_value (inl form) (inl none) e d m = Some (keyword.BadPattern m)
+by_value (inl form) (inr pattern) (inl needs) d m = Some (keyword.PatternNotLiteral m)
+by_value (inl form) (inr pattern) (inr literal) (inl deep) m = Some (keyword.TooDeep m)
+by_value (inl form) (inr pattern) (inr literal) (inr not_deep) m = None
+by_value (inr no_form) n e d m = Some (keyword.BadKeyword m)
+
+abbrev of_value : Keyword → Tree → ℕ → Fault
+of_value w v m = by_value (decided_form w v) (decided_no_pattern w v) (decided_engine w v) (decided_deep w v) m
 
 -- by its keyword, and whether its name is still to come
 abbrev by_name : {P : Type 0} → Option Keyword → Tree → Decided P → ℕ → Fault
 by_name None v (inl coming) m = Some keyword.Unbuilt
 by_name None v (inr unknown) m = Some (keyword.UnknownKeyword m)
-by_name (Some w) v d m = by_value (decided_form w v) (decided_deep w v) m
+by_name (Some w) v d m = of_value w v m
 
 abbrev is_coming : (p : Pair) → Decided (IsToCome p.0)
 is_coming p = decided_true (list_any (bytes_eq p.0) to_come)
@@ -73,35 +80,65 @@ unbuilt_is m p h = go (keyword_of p.0) (is_coming p) h.0 h.1
 
 -- what is known of a keyword that is built, and what its value gives
 named_is : {P : Type 0} (Q : Keyword → Type 0) (v : Tree) (m : ℕ) (f : Fault) (o : Option Keyword) (d : Decided P) → IsSomeAnd o Q
-    → ((w : Keyword) → Q w → by_value (decided_form w v) (decided_deep w v) m ≡ f) → by_name o v d m ≡ f
+    → ((w : Keyword) → Q w → of_value w v m ≡ f) → by_name o v d m ≡ f
 named_is Q v m f None d h gives = absurd h
 named_is Q v m f (Some w) d h gives = gives w h
 
 bad_is : (m : ℕ) (p : Pair) → IsBad p → cause p m ≡ fault (keyword.BadKeyword m)
 bad_is m p h = named_is (λ w. (HasForm w p.1 → ⊥)) p.1 m (Some (keyword.BadKeyword m)) (keyword_of p.0) (is_coming p) h
-    (λ w n. go (decided_form w p.1) (decided_deep w p.1) n)
+    (λ w n. go (decided_form w p.1) (decided_no_pattern w p.1) (decided_engine w p.1) (decided_deep w p.1) n)
   where
-    go : {F D : Type 0} (f : Decided F) (d : Decided D) → (F → ⊥) → by_value f d m ≡ fault (keyword.BadKeyword m)
-    go (inl f) d n = absurd (n f)
-    go (inr f) d n = refl
+    go : {F N E D : Type 0} (f : Decided F) (n : Decided N) (e : Decided E) (d : Decided D) → (F → ⊥)
+        → by_value f n e d m ≡ fault (keyword.BadKeyword m)
+    go (inl f) n e d no = absurd (no f)
+    go (inr f) n e d no = refl
+
+bad_pattern_is : (m : ℕ) (p : Pair) → IsBadPattern p → cause p m ≡ fault (keyword.BadPattern m)
+bad_pattern_is m p h = named_is (λ w. IsNoPattern w p.1) p.1 m (Some (keyword.BadPattern m)) (keyword_of p.0) (is_coming p) h
+    (λ w n. go (decided_form w p.1) (decided_no_pattern w p.1) (decided_engine w p.1) (decided_deep w p.1) (no_pattern_form w p.1 n) n)
+  where
+    go : {F N E D : Type 0} (f : Decided F) (n : Decided N) (e : Decided E) (d : Decided D) → F → N
+        → by_value f n e d m ≡ fault (keyword.BadPattern m)
+    go (inl f) (inl n) e d x y = refl
+    go (inl f) (inr n) e d x y = absurd (n y)
+    go (inr f) n e d x y = absurd (f x)
+
+not_literal_is : (m : ℕ) (p : Pair) → IsNotLiteral p → cause p m ≡ fault (keyword.PatternNotLiteral m)
+not_literal_is m p h = named_is (λ w. NeedsEngine w p.1) p.1 m (Some (keyword.PatternNotLiteral m)) (keyword_of p.0) (is_coming p) h
+    (λ w e. go (decided_form w p.1) (decided_no_pattern w p.1) (decided_engine w p.1) (decided_deep w p.1) (needs_engine_form w p.1 e)
+    (one_of_both w p.1 e) e)
+  where
+    go : {F N E D : Type 0} (f : Decided F) (n : Decided N) (e : Decided E) (d : Decided D) → F → (N → ⊥) → E
+        → by_value f n e d m ≡ fault (keyword.PatternNotLiteral m)
+    go (inl f) (inl n) e d x no y = absurd (no n)
+    go (inl f) (inr n) (inl e) d x no y = refl
+    go (inl f) (inr n) (inr e) d x no y = absurd (e y)
+    go (inr f) n e d x no y = absurd (f x)
 
 deep_is : (m : ℕ) (p : Pair) → IsTooDeep p → cause p m ≡ fault (keyword.TooDeep m)
 deep_is m p h = named_is (λ w. HasForm w p.1 × KeepsDeep w p.1) p.1 m (Some (keyword.TooDeep m)) (keyword_of p.0) (is_coming p) h
-    (λ w n. go (decided_form w p.1) (decided_deep w p.1) n.0 n.1)
+    (λ w d. go (decided_form w p.1) (decided_no_pattern w p.1) (decided_engine w p.1) (decided_deep w p.1) d.0 (deep_alone w p.1 d.1)
+    (deep_no_engine w p.1 d.1) d.1)
   where
-    go : {F D : Type 0} (f : Decided F) (d : Decided D) → F → D → by_value f d m ≡ fault (keyword.TooDeep m)
-    go (inl f) (inl d) x y = refl
-    go (inl f) (inr d) x y = absurd (d y)
-    go (inr f) d x y = absurd (f x)
+    go : {F N E D : Type 0} (f : Decided F) (n : Decided N) (e : Decided E) (d : Decided D) → F → (N → ⊥) → (E → ⊥) → D
+        → by_value f n e d m ≡ fault (keyword.TooDeep m)
+    go (inl f) (inl n) e d x no never y = absurd (no n)
+    go (inl f) (inr n) (inl e) d x no never y = absurd (never e)
+    go (inl f) (inr n) (inr e) (inl d) x no never y = refl
+    go (inl f) (inr n) (inr e) (inr d) x no never y = absurd (d y)
+    go (inr f) n e d x no never y = absurd (f x)
 
 fair_is : (m : ℕ) (p : Pair) → IsFair p → cause p m ≡ None
 fair_is m p h = named_is (λ w. Suits w p.1) p.1 m None (keyword_of p.0) (is_coming p) h
-    (λ w s. go (decided_form w p.1) (decided_deep w p.1) s.form s.not_deep)
+    (λ w s. go (decided_form w p.1) (decided_no_pattern w p.1) (decided_engine w p.1) (decided_deep w p.1) s.form s.pattern s.literal s.not_deep)
   where
-    go : {F D : Type 0} (f : Decided F) (d : Decided D) → F → (D → ⊥) → by_value f d m ≡ None
-    go (inl f) (inl d) x n = absurd (n d)
-    go (inl f) (inr d) x n = refl
-    go (inr f) d x n = absurd (f x)
+    go : {F N E D : Type 0} (f : Decided F) (n : Decided N) (e : Decided E) (d : Decided D) → F → (N → ⊥) → (E → ⊥) → (D → ⊥)
+        → by_value f n e d m ≡ None
+    go (inl f) (inl n) e d x no never shallow = absurd (no n)
+    go (inl f) (inr n) (inl e) d x no never shallow = absurd (never e)
+    go (inl f) (inr n) (inr e) (inl d) x no never shallow = absurd (shallow d)
+    go (inl f) (inr n) (inr e) (inr d) x no never shallow = refl
+    go (inr f) n e d x no never shallow = absurd (f x)
 
 -- the first fault of pairs, of which the first has number m
 abbrev or_next : Fault → Fault → Fault
@@ -151,6 +188,8 @@ fault_is t None h = pairs_fault (as_object t) h.object ∙ none_first (pairs_of 
 fault_is t (Some keyword.NotAnObject) h = ap fault_in h
 fault_is t (Some (keyword.UnknownKeyword m)) h = member_fault t m IsUnknown (keyword.UnknownKeyword m) (unknown_is m) h
 fault_is t (Some (keyword.BadKeyword m)) h = member_fault t m IsBad (keyword.BadKeyword m) (bad_is m) h
+fault_is t (Some (keyword.BadPattern m)) h = member_fault t m IsBadPattern (keyword.BadPattern m) (bad_pattern_is m) h
+fault_is t (Some (keyword.PatternNotLiteral m)) h = member_fault t m IsNotLiteral (keyword.PatternNotLiteral m) (not_literal_is m) h
 fault_is t (Some (keyword.TooDeep m)) h = member_fault t m IsTooDeep (keyword.TooDeep m) (deep_is m) h
 fault_is t (Some keyword.Unbuilt) h = member_fault t h.0 IsUnbuilt keyword.Unbuilt (unbuilt_is h.0) h.1
 fault_is t (Some keyword.OutOfMemory) h = absurd h

@@ -9,12 +9,13 @@ use Rattle.json_model.specs.Tree.{Tree, scalar, array, object}
 use Rattle.json_traits.specs.Names.{name_of}
 use Rattle.json_traits.specs.Numbers.{whole}
 use Rattle.judge.specs.Names.{keyword_of, to_come}
-use Rattle.judge.specs.Validity.{AreDistinct, AreNames, AreTypeNames, HasDeep, HasFault, HasForm, IsBad, IsCount, IsDeep, IsFair, IsFirst, IsToCome, IsTooDeep, IsTypeName, IsUnbuilt, IsUnknown, KeepsDeep, Suits}
+use Rattle.judge.specs.Validity.{AreDistinct, AreNames, AreTypeNames, HasDeep, HasFault, HasForm, IsBad, IsBadPattern, IsCount, IsDeep, IsFair, IsFirst, IsNoPattern, IsNotLiteral, IsToCome, IsTooDeep, IsTypeName, IsUnbuilt, IsUnknown, KeepsDeep, NeedsEngine, Suits}
 use Rattle.judge.specs.Verdict.{IsNameOf}
 use Rattle.judge.specs.declared.errors.KeywordError.{KeywordError}
 use Rattle.judge.specs.declared.errors.KeywordError.TheVariants as keyword
 use Rattle.judge.specs.declared.keyword.Keyword.{Keyword}
-use Rattle.judge.specs.declared.keyword.Keyword.TheVariants.{«Type», Enum, Const, Bound, Least, Greatest, Required}
+use Rattle.judge.specs.declared.keyword.Keyword.TheVariants.{«Type», Enum, Const, Bound, Least, Greatest, Pattern, Required}
+use Rattle.judge.proofs.PatternFaults.{decided_engine, decided_no_pattern}
 use Rattle.judge.proofs.Decided.{Decided, decided_less, decided_all, decided_and, decided_below, decided_both, decided_either, decided_filled, decided_not, decided_some, decided_true, decided_type, decided_whole, same_texts}
 
 -- ---- the forms
@@ -54,6 +55,7 @@ decided_form Const v = inl tt
 decided_form (Bound op) v = decided_some (as_number v)
 decided_form (Least measure) v = decided_limit v
 decided_form (Greatest measure) v = decided_limit v
+decided_form Pattern v = decided_some (as_string v)
 decided_form Required v = decided_and AreNames decided_names (as_array v)
 
 decided_is_deep : (v : Tree) → Decided (IsDeep v)
@@ -70,25 +72,33 @@ decided_deep Const v = decided_is_deep v
 decided_deep (Bound op) v = inr (λ h. h)
 decided_deep (Least measure) v = inr (λ h. h)
 decided_deep (Greatest measure) v = inr (λ h. h)
+decided_deep Pattern v = inr (λ h. h)
 decided_deep Required v = inr (λ h. h)
 
--- ---- a member has no fault, or one of the four
+-- ---- a member has no fault, or one of the six
 
 abbrev Pair : Type 0
 Pair = List ℕ × Tree
 
 abbrev IsFaulty : Pair → Type 0
-IsFaulty p = IsUnknown p ⊎ (IsUnbuilt p ⊎ (IsBad p ⊎ IsTooDeep p))
+IsFaulty p = IsUnknown p ⊎ (IsUnbuilt p ⊎ (IsBad p ⊎ (IsBadPattern p ⊎ (IsNotLiteral p ⊎ IsTooDeep p))))
 
 by_keyword : (o : Option Keyword) (v : Tree) (P : Type 0) → Decided P
     → IsSomeAnd o (λ w. Suits w v) ⊎ (((o ≡ None) × (P → ⊥)) ⊎ (((o ≡ None) × P)
-    ⊎ (IsSomeAnd o (λ w. (HasForm w v → ⊥)) ⊎ IsSomeAnd o (λ w. HasForm w v × KeepsDeep w v))))
+    ⊎ (IsSomeAnd o (λ w. (HasForm w v → ⊥)) ⊎ (IsSomeAnd o (λ w. IsNoPattern w v) ⊎ (IsSomeAnd o (λ w. NeedsEngine w v)
+    ⊎ IsSomeAnd o (λ w. HasForm w v × KeepsDeep w v))))))
 by_keyword None v P (inl p) = inr (inr (inl (refl, p)))
 by_keyword None v P (inr n) = inr (inl (refl, n))
 by_keyword (Some w) v P d = elim (decided_form w v) [
-  | inl form ↦ elim (decided_deep w v) [
-    | inl deep ↦ inr (inr (inr (inr (form, deep))))
-    | inr not_deep ↦ inl (record { form = form; not_deep = not_deep })
+  | inl form ↦ elim (decided_no_pattern w v) [
+    | inl bad ↦ inr (inr (inr (inr (inl bad))))
+    | inr pattern ↦ elim (decided_engine w v) [
+      | inl needs ↦ inr (inr (inr (inr (inr (inl needs)))))
+      | inr literal ↦ elim (decided_deep w v) [
+        | inl deep ↦ inr (inr (inr (inr (inr (inr (form, deep))))))
+        | inr not_deep ↦ inl (record { form = form; pattern = pattern; literal = literal; not_deep = not_deep })
+      ]
+    ]
   ]
   | inr bad ↦ inr (inr (inr (inl bad)))
 ]
@@ -112,23 +122,29 @@ all_or_first (p ∷ ps) = elim (fair_or_faulty p) [
   | inr faulty ↦ inr (zero, (tt, faulty))
 ]
 
-one_of_and : {A : Type 0} (o : Option A) (P Q R S : A → Type 0) → IsSomeAnd o (λ a. P a ⊎ (Q a ⊎ (R a ⊎ S a)))
-    → IsSomeAnd o P ⊎ (IsSomeAnd o Q ⊎ (IsSomeAnd o R ⊎ IsSomeAnd o S))
-one_of_and None P Q R S h = absurd h
-one_of_and (Some a) P Q R S h = h
+one_of_and : {A : Type 0} (o : Option A) (P Q R S U V : A → Type 0) → IsSomeAnd o (λ a. P a ⊎ (Q a ⊎ (R a ⊎ (S a ⊎ (U a ⊎ V a)))))
+    → IsSomeAnd o P ⊎ (IsSomeAnd o Q ⊎ (IsSomeAnd o R ⊎ (IsSomeAnd o S ⊎ (IsSomeAnd o U ⊎ IsSomeAnd o V))))
+one_of_and None P Q R S U V h = absurd h
+one_of_and (Some a) P Q R S U V h = h
 
 module _ (t : Tree) (is : IsSome (as_object t)) where
   first_is : (m : ℕ) (P : Pair → Type 0) → AllByRecursion IsFair (take m (pairs_of t)) → IsSomeAnd (slice_get (pairs_of t) m) P → IsFirst t m P
   first_is m P before here = record { object = is; before = before; here = here }
 
   of_first : (m : ℕ) → FirstIn (pairs_of t) m IsFaulty → (f : Option KeywordError) × HasFault t f
-  of_first m (before, here) = elim (one_of_and (slice_get (pairs_of t) m) IsUnknown IsUnbuilt IsBad IsTooDeep here) [
+  of_first m (before, here) = elim (one_of_and (slice_get (pairs_of t) m) IsUnknown IsUnbuilt IsBad IsBadPattern IsNotLiteral IsTooDeep here) [
     | inl unknown ↦ (Some (keyword.UnknownKeyword m), first_is m IsUnknown before unknown)
     | inr rest ↦ elim rest [
       | inl unbuilt ↦ (Some keyword.Unbuilt, (m, first_is m IsUnbuilt before unbuilt))
       | inr rest ↦ elim rest [
         | inl bad ↦ (Some (keyword.BadKeyword m), first_is m IsBad before bad)
-        | inr deep ↦ (Some (keyword.TooDeep m), first_is m IsTooDeep before deep)
+        | inr rest ↦ elim rest [
+          | inl bad ↦ (Some (keyword.BadPattern m), first_is m IsBadPattern before bad)
+          | inr rest ↦ elim rest [
+            | inl needs ↦ (Some (keyword.PatternNotLiteral m), first_is m IsNotLiteral before needs)
+            | inr deep ↦ (Some (keyword.TooDeep m), first_is m IsTooDeep before deep)
+          ]
+        ]
       ]
     ]
   ]

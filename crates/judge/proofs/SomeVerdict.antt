@@ -1,6 +1,6 @@
--- Each pair of trees has a verdict: whether a document meets a keyword is decided.
-use Rattle.std.proofs.Common.{inl, inr, ℕ, ◌^◌, List, [], ◌∷◌, Bool, Option, Some, pos}
-use Rattle.std.specs.Prelude.{◌↔◌, ◌*ℤ◌, IfSome, IsTrue, IsSome}
+-- Each valid keyword object and each document have a verdict: whether a document meets a keyword is decided.
+use Rattle.std.proofs.Common.{inl, inr, ℕ, ◌^◌, List, [], ◌∷◌, Bool, Option, Some, None, pos}
+use Rattle.std.specs.Prelude.{◌↔◌, ◌*ℤ◌, IfSome, IsTrue, IsSome, IsSomeAnd}
 use Rattle.std.specs.List.{AllByRecursion}
 use Rattle.json_model.specs.Decimal.{Decimal, IsBelow}
 use Rattle.json_model.specs.Parts.{as_number, as_object, as_string, elements_of, is_number, lookup, pairs_of}
@@ -15,9 +15,11 @@ use Rattle.json_traits.specs.Numbers.{decimal_in, whole}
 use Rattle.json_traits.specs.declared.types.json_type.JsonType.{JsonType}
 use Rattle.json_traits.specs.declared.types.json_type.JsonType.TheVariants.{Integer}
 use Rattle.judge.specs.Names.{keyword_of}
+use Rattle.judge.specs.Validity.{IsFair, IsValid, Suits}
 use Rattle.judge.specs.Verdict.{Holds, HoldsAt, IsAmong, IsKeyOf, IsNamed, IsOneOf, IsUpTo, Reaches, Verdict, count_of}
 use Rattle.judge.specs.declared.keyword.Keyword.{Keyword}
-use Rattle.judge.specs.declared.keyword.Keyword.TheVariants.{«Type», Enum, Const, Bound, Least, Greatest, Required}
+use Rattle.judge.specs.declared.keyword.Keyword.TheVariants.{«Type», Enum, Const, Bound, Least, Greatest, Pattern, Required}
+use Rattle.judge.proofs.PatternVerdicts.{decided_found}
 use Rattle.judge.proofs.BoundLaws.{at_most}
 use Rattle.judge.proofs.DecidedSame.{decided_same}
 use Rattle.judge.proofs.Decided.{Decided, decided_all, decided_below, decided_both, decided_either, decided_if, decided_not, decided_some, decided_true, decided_type, decided_whole, same_texts, same_type, truth_of}
@@ -88,18 +90,27 @@ decided_keeps Lte m x = decided_at_most x m
 decided_keeps Gt m x = decided_below m x
 decided_keeps Gte m x = decided_at_most m x
 
-decided_holds : (w : Keyword) (v d : Tree) → Decided (Holds w v d)
-decided_holds «Type» v d = decided_types v d
-decided_holds Enum v d = decided_one_of d (elements_of v)
-decided_holds Const v d = decided_same d v
-decided_holds (Bound op) v d = decided_bound (λ m x. Keeps op x m) (decided_keeps op) v d
-decided_holds (Least measure) v d = decided_limit Reaches decided_reaches v (count_of measure d)
-decided_holds (Greatest measure) v d = decided_limit IsUpTo decided_up_to v (count_of measure d)
-decided_holds Required v d =
+decided_holds : (w : Keyword) (v d : Tree) → Suits w v → Decided (Holds w v d)
+decided_holds «Type» v d suits = decided_types v d
+decided_holds Enum v d suits = decided_one_of d (elements_of v)
+decided_holds Const v d suits = decided_same d v
+decided_holds (Bound op) v d suits = decided_bound (λ m x. Keeps op x m) (decided_keeps op) v d
+decided_holds (Least measure) v d suits = decided_limit Reaches decided_reaches v (count_of measure d)
+decided_holds (Greatest measure) v d suits = decided_limit IsUpTo decided_up_to v (count_of measure d)
+decided_holds Pattern v d suits = decided_found (as_string v) (as_string d) suits.pattern suits.literal
+decided_holds Required v d suits =
     decided_if (λ ps. AllByRecursion (IsKeyOf ps) (elements_of v)) (λ ps. decided_all (IsKeyOf ps) (decided_key ps) (elements_of v)) (as_object d)
 
-decided_at : (d : Tree) (p : List ℕ × Tree) → Decided (HoldsAt d p)
-decided_at d p = decided_if (λ w. Holds w p.1 d) (λ w. decided_holds w p.1 d) (keyword_of p.0)
+decided_at : (d : Tree) (p : List ℕ × Tree) → IsFair p → Decided (HoldsAt d p)
+decided_at d p fair = go (keyword_of p.0) fair
+  where
+    go : (o : Option Keyword) → IsSomeAnd o (λ w. Suits w p.1) → Decided (IfSome o (λ w. Holds w p.1 d))
+    go None fair = absurd fair
+    go (Some w) fair = decided_holds w p.1 d fair
 
-pub some_verdict : (k d : Tree) → (b : Bool) × (IsTrue b ↔ Verdict k d)
-some_verdict k d = truth_of (decided_all (HoldsAt d) (decided_at d) (pairs_of k))
+decided_pairs : (d : Tree) (ps : List (List ℕ × Tree)) → AllByRecursion IsFair ps → Decided (AllByRecursion (HoldsAt d) ps)
+decided_pairs d [] fair = inl tt
+decided_pairs d (p ∷ ps) fair = decided_both (decided_at d p fair.0) (decided_pairs d ps fair.1)
+
+pub some_verdict : (k d : Tree) → IsValid k → (b : Bool) × (IsTrue b ↔ Verdict k d)
+some_verdict k d valid = truth_of (decided_pairs d (pairs_of k) valid.fair)

@@ -5,7 +5,7 @@ use Rattle.judge.specs.Right.{Right}
 use Rattle.judge.specs.declared.errors.Fault.{Fault}
 use Rattle.judge.specs.declared.errors.Fault.TheVariants.{Malformed, NotText, NumberTooWide}
 use Rattle.judge.specs.declared.errors.JudgeError.{JudgeError}
-use Rattle.judge.specs.declared.errors.JudgeError.TheVariants.{Keywords, NotAnObject, UnknownKeyword, BadKeyword, TooDeep, Document, Unbuilt, OutOfMemory}
+use Rattle.judge.specs.declared.errors.JudgeError.TheVariants.{Keywords, NotAnObject, UnknownKeyword, BadKeyword, BadPattern, PatternNotLiteral, TooDeep, Document, Unbuilt, OutOfMemory}
 
 -- the line is two hex texts with one space between
 pub record IsPair (line keywords document : List ℕ) : Type 0 where
@@ -28,6 +28,8 @@ name_of (Err (Keywords fault)) = Some (codes "Keywords(" ++ fault_name fault ++ 
 name_of (Err NotAnObject) = Some (codes "NotAnObject")
 name_of (Err (UnknownKeyword member)) = Some (codes "UnknownKeyword")
 name_of (Err (BadKeyword member)) = Some (codes "BadKeyword")
+name_of (Err (BadPattern member)) = Some (codes "BadPattern")
+name_of (Err (PatternNotLiteral member)) = Some (codes "PatternNotLiteral")
 name_of (Err (TooDeep member)) = Some (codes "TooDeep")
 name_of (Err (Document fault)) = Some (codes "Document(" ++ fault_name fault ++ codes ")")
 name_of (Err Unbuilt) = Some (codes "Unbuilt")

@@ -2,18 +2,20 @@
 -- own. What it is to pass checks is said by the clauses that cite these words, and nowhere else.
 use Rattle.std.specs.Prelude.{List, ℕ, ◌≡◌, ◌↔◌, Some}
 use Rattle.json_model.specs.Tree.{Tree}
-use Rattle.judge.specs.Validity.{HasFault, IsBad, IsCopied, IsFair, IsTooDeep, IsUnbuilt, IsUnknown, IsValid}
+use Rattle.judge.specs.Validity.{HasFault, IsBad, IsBadPattern, IsCopied, IsFair, IsNotLiteral, IsTooDeep, IsUnbuilt, IsUnknown, IsValid}
 use Rattle.judge.specs.Verdict.{HoldsAt, Verdict}
 use Rattle.judge.specs.inner.Passes.{Passes}
 use Rattle.judge.specs.declared.checks.Checks.{Checks}
 use Rattle.judge.specs.declared.errors.KeywordError.{KeywordError}
-use Rattle.judge.specs.declared.errors.KeywordError.TheVariants.{NotAnObject, UnknownKeyword, BadKeyword, TooDeep, Unbuilt, OutOfMemory}
+use Rattle.judge.specs.declared.errors.KeywordError.TheVariants.{NotAnObject, UnknownKeyword, BadKeyword, BadPattern, PatternNotLiteral, TooDeep, Unbuilt, OutOfMemory}
 
 -- member number m is p and has the fault e
 abbrev pub IsFault : ℕ → List ℕ × Tree → KeywordError → Type 0
 IsFault m p NotAnObject = ⊥
 IsFault m p (UnknownKeyword n) = (n ≡ m) × IsUnknown p
 IsFault m p (BadKeyword n) = (n ≡ m) × IsBad p
+IsFault m p (BadPattern n) = (n ≡ m) × IsBadPattern p
+IsFault m p (PatternNotLiteral n) = (n ≡ m) × IsNotLiteral p
 IsFault m p (TooDeep n) = (n ≡ m) × IsTooDeep p
 IsFault m p Unbuilt = IsUnbuilt p
 IsFault m p OutOfMemory = IsCopied p

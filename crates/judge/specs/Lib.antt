@@ -1,4 +1,5 @@
 pub mod Names
+pub mod Patterns
 pub mod Verdict
 pub mod Validity
 pub mod Right

@@ -10,11 +10,12 @@ use Rattle.json_model.specs.Tree.{Tree}
 use Rattle.json_traits.specs.Numbers.{whole}
 use Rattle.json_traits.specs.declared.types.json_type.JsonType.{JsonType}
 use Rattle.judge.specs.Names.{keyword_of, to_come}
+use Rattle.judge.specs.Patterns.{IsLiteral, IsPattern}
 use Rattle.judge.specs.Verdict.{IsNameOf}
 use Rattle.judge.specs.declared.errors.KeywordError.{KeywordError}
-use Rattle.judge.specs.declared.errors.KeywordError.TheVariants.{NotAnObject, UnknownKeyword, BadKeyword, TooDeep, Unbuilt, OutOfMemory}
+use Rattle.judge.specs.declared.errors.KeywordError.TheVariants.{NotAnObject, UnknownKeyword, BadKeyword, BadPattern, PatternNotLiteral, TooDeep, Unbuilt, OutOfMemory}
 use Rattle.judge.specs.declared.keyword.Keyword.{Keyword}
-use Rattle.judge.specs.declared.keyword.Keyword.TheVariants.{«Type», Enum, Const, Bound, Least, Greatest, Required}
+use Rattle.judge.specs.declared.keyword.Keyword.TheVariants.{«Type», Enum, Const, Bound, Least, Greatest, Pattern, Required}
 
 -- a name of a type
 abbrev pub IsTypeName : Tree → Type 0
@@ -45,6 +46,7 @@ HasForm Const v = ⊤
 HasForm (Bound op) v = IsSome (as_number v)
 HasForm (Least measure) v = IsSomeAnd (as_number v) IsCount
 HasForm (Greatest measure) v = IsSomeAnd (as_number v) IsCount
+HasForm Pattern v = IsSome (as_string v)
 HasForm Required v = IsSomeAnd (as_array v) AreNames
 
 -- more than 128 containers stand in each other, the tree itself counted. This limit is this project's own.
@@ -64,11 +66,24 @@ KeepsDeep Const v = IsDeep v
 KeepsDeep (Bound op) v = ⊥
 KeepsDeep (Least measure) v = ⊥
 KeepsDeep (Greatest measure) v = ⊥
+KeepsDeep Pattern v = ⊥
 KeepsDeep Required v = ⊥
+
+-- the value of `pattern` is a string that is no pattern
+abbrev pub IsNoPattern : Keyword → Tree → Type 0
+IsNoPattern Pattern v = IsSomeAnd (as_string v) (λ s. IsPattern s → ⊥)
+IsNoPattern _ v = ⊥
+
+-- the value of `pattern` is a pattern that is not literal
+abbrev pub NeedsEngine : Keyword → Tree → Type 0
+NeedsEngine Pattern v = IsSomeAnd (as_string v) (λ s. IsPattern s × (IsLiteral s → ⊥))
+NeedsEngine _ v = ⊥
 
 -- the keyword takes the value
 pub record Suits (w : Keyword) (v : Tree) : Type 0 where
   pub form : HasForm w v
+  pub pattern : IsNoPattern w v → ⊥
+  pub literal : NeedsEngine w v → ⊥
   pub not_deep : KeepsDeep w v → ⊥
 
 -- a member with no fault
@@ -89,6 +104,14 @@ IsUnbuilt p = (keyword_of p.0 ≡ None) × IsToCome p.0
 abbrev pub IsBad : List ℕ × Tree → Type 0
 IsBad p = IsSomeAnd (keyword_of p.0) (λ w. (HasForm w p.1 → ⊥))
 
+-- the value is a string, but no pattern
+abbrev pub IsBadPattern : List ℕ × Tree → Type 0
+IsBadPattern p = IsSomeAnd (keyword_of p.0) (λ w. IsNoPattern w p.1)
+
+-- the value is a pattern, but not a literal one
+abbrev pub IsNotLiteral : List ℕ × Tree → Type 0
+IsNotLiteral p = IsSomeAnd (keyword_of p.0) (λ w. NeedsEngine w p.1)
+
 -- the value has the form of its keyword, and nests too deep to be kept
 abbrev pub IsTooDeep : List ℕ × Tree → Type 0
 IsTooDeep p = IsSomeAnd (keyword_of p.0) (λ w. HasForm w p.1 × KeepsDeep w p.1)
@@ -101,15 +124,16 @@ TakesMemory Const v = ⊤
 TakesMemory (Bound op) v = ⊥
 TakesMemory (Least measure) v = ⊥
 TakesMemory (Greatest measure) v = ⊥
+TakesMemory Pattern v = IsSome (as_string v)
 TakesMemory Required v = IsSome (as_array v)
 
 -- reading the member's value takes memory
 abbrev pub IsCopied : List ℕ × Tree → Type 0
 IsCopied p = IsSomeAnd (keyword_of p.0) (λ w. TakesMemory w p.1)
 
--- no member is `const`, the one keyword that takes memory for a value that is no container
+-- no member is `const` or `pattern`, the keywords that take memory for a value that is no container
 abbrev pub IsLean : Tree → Type 0
-IsLean t = AllByRecursion (λ p. keyword_of p.0 ≡ Some Const → ⊥) (pairs_of t)
+IsLean t = AllByRecursion (λ p. (keyword_of p.0 ≡ Some Const → ⊥) × (keyword_of p.0 ≡ Some Pattern → ⊥)) (pairs_of t)
 
 -- member number m is P, and no member before it has a fault
 pub record IsFirst (t : Tree) (m : ℕ) (P : List ℕ × Tree → Type 0) : Type 0 where
@@ -127,6 +151,8 @@ HasFault t None = IsValid t
 HasFault t (Some NotAnObject) = as_object t ≡ None
 HasFault t (Some (UnknownKeyword m)) = IsFirst t m IsUnknown
 HasFault t (Some (BadKeyword m)) = IsFirst t m IsBad
+HasFault t (Some (BadPattern m)) = IsFirst t m IsBadPattern
+HasFault t (Some (PatternNotLiteral m)) = IsFirst t m IsNotLiteral
 HasFault t (Some (TooDeep m)) = IsFirst t m IsTooDeep
 HasFault t (Some Unbuilt) = (m : ℕ) × IsFirst t m IsUnbuilt
 HasFault t (Some OutOfMemory) = ⊥

@@ -89,6 +89,8 @@ fn printed(verdict: Result<bool, JudgeError>) -> Option<&'static [u8]>
         Err(JudgeError::NotAnObject) => Some(b"NotAnObject\n"),
         Err(JudgeError::UnknownKeyword { .. }) => Some(b"UnknownKeyword\n"),
         Err(JudgeError::BadKeyword { .. }) => Some(b"BadKeyword\n"),
+        Err(JudgeError::BadPattern { .. }) => Some(b"BadPattern\n"),
+        Err(JudgeError::PatternNotLiteral { .. }) => Some(b"PatternNotLiteral\n"),
         Err(JudgeError::TooDeep { .. }) => Some(b"TooDeep\n"),
         Err(JudgeError::Document(Fault::Malformed)) => Some(b"Document(Malformed)\n"),
         Err(JudgeError::Document(Fault::NotText)) => Some(b"Document(NotText)\n"),

@@ -17,10 +17,12 @@ use crate::keyword::{Keyword, Measure};
 use crate::limits::{Limit, Limits};
 use crate::meets::{meets_bounds, meets_code_points, meets_elements, meets_members, meets_types};
 use crate::names::{meets_required, read_names};
+use crate::patterns::{meets_pattern, read_pattern};
 use crate::read::{read_bound, read_limit, read_types};
 use json_exact::{OutOfMemory, Value};
 use json_traits::types::JsonTypeSet;
 use json_traits::{Node, Object};
+use jsonschema_regex::LiteralPattern;
 use std::alloc::Global;
 
 /// A keyword object that is compiled once and checks many documents, whatever holds them: what it asks, with each keyword's
@@ -34,6 +36,7 @@ pub struct Checks {
     code_points: Limits,
     elements: Limits,
     members: Limits,
+    pattern: Option<LiteralPattern>,
     required: Option<Vec<String>>,
 }
 
@@ -51,6 +54,7 @@ impl Checks {
             code_points: Limits::NONE,
             elements: Limits::NONE,
             members: Limits::NONE,
+            pattern: None,
             required: None,
         }
     }
@@ -104,6 +108,7 @@ impl Checks {
             Keyword::Bound(op) => self.bounds.set(read_bound(op, value, member)?),
             Keyword::Least(measure) => self.set_least(measure, read_limit(value, member)?),
             Keyword::Greatest(measure) => self.set_greatest(measure, read_limit(value, member)?),
+            Keyword::Pattern => self.pattern = Some(read_pattern(alloc, value, member)?),
             Keyword::Required => self.required = Some(read_names(alloc, value, member)?),
         }
         Ok(())
@@ -129,7 +134,7 @@ impl Checks {
     }
 
     /// The checks of one keyword, as member number `member` of its object. The error is that member's fault, or want of memory,
-    /// which comes of `required` and `enum` with a list, and of `const`, alone.
+    /// which comes of `required` and `enum` with a list, of `const`, and of `pattern` with a string, alone.
     pub fn of_member<'a, N: Node<'a>>(
         alloc: Global,
         name: &str,
@@ -147,8 +152,8 @@ impl Checks {
     }
 
     /// Compiles a keyword object, whose members it walks once, in key order. The error is that of the first faulty member.
-    /// It takes memory for the names that `required` lists, and for the values of `enum` and `const`, alone: no other keyword
-    /// object gets want of memory.
+    /// It takes memory for the names that `required` lists, for the values of `enum` and `const`, and for a pattern, alone: no
+    /// other keyword object gets want of memory. A pattern of 2^30 bytes or more that is not literal gets it too.
     pub fn compile<'a, N: Node<'a>>(alloc: Global, root: &N) -> Result<Checks, KeywordError>
         ensures right { (result ≡ Err KeywordError.OutOfMemory)
             ⊎ MatchResult result (IsCompiled (N.tree root.now)) (HasThisFault (N.tree root.now)) }
@@ -186,6 +191,7 @@ impl Checks {
             && meets_code_points(&self.code_points, node)
             && meets_elements(&self.elements, node)
             && meets_members(&self.members, node)
+            && meets_pattern(&self.pattern, node)
             && meets_required(&self.required, node);
         Ok(passes)
     }

@@ -33,14 +33,20 @@ pub enum KeywordError {
     /// The first faulty member's value has not the form that its keyword asks for, as in `{"type":"x"}`.
     #[error("BadKeyword")]
     BadKeyword { member: usize },
+    /// The first faulty member is `pattern` with a string that is no pattern of ECMA-262, as in `{"pattern":"("}`.
+    #[error("BadPattern")]
+    BadPattern { member: usize },
+    /// The first faulty member is `pattern` with a pattern that is not literal, as in `{"pattern":"a"}`.
+    #[error("PatternNotLiteral")]
+    PatternNotLiteral { member: usize },
     /// The first faulty member is `const` with a value that nests more than 128 containers, itself counted, or `enum` with such
     /// an element.
     #[error("TooDeep")]
     TooDeep { member: usize },
-    /// The first faulty member has a name that is known and not built yet, as in `{"pattern":"a"}`.
+    /// The first faulty member has a name that is known and not built yet, as in `{"uniqueItems":true}`.
     #[error("Unbuilt")]
     Unbuilt,
-    /// Memory for the names that `required` lists, or for the values of `enum` or `const`, is wanting.
+    /// Memory for the names that `required` lists, for the values of `enum` or `const`, or for a pattern is wanting.
     #[error("OutOfMemory")]
     OutOfMemory,
 }
@@ -61,6 +67,12 @@ pub enum JudgeError {
     /// The first faulty member's value has not the form that its keyword asks for, as in `{"type":"x"}`.
     #[error("BadKeyword")]
     BadKeyword { member: usize },
+    /// The first faulty member is `pattern` with a string that is no pattern of ECMA-262, as in `{"pattern":"("}`.
+    #[error("BadPattern")]
+    BadPattern { member: usize },
+    /// The first faulty member is `pattern` with a pattern that is not literal, as in `{"pattern":"a"}`.
+    #[error("PatternNotLiteral")]
+    PatternNotLiteral { member: usize },
     /// The first faulty member is `const` with a value that nests more than 128 containers, itself counted, or `enum` with such
     /// an element.
     #[error("TooDeep")]
@@ -68,10 +80,11 @@ pub enum JudgeError {
     /// The document's bytes are no JSON tree.
     #[error("Document")]
     Document(Fault),
-    /// The first faulty member has a name that is known and not built yet, as in `{"pattern":"a"}`.
+    /// The first faulty member has a name that is known and not built yet, as in `{"uniqueItems":true}`.
     #[error("Unbuilt")]
     Unbuilt,
-    /// Memory for the nesting of a slice, for the names that `required` lists, or for the values of `enum` or `const`, is wanting.
+    /// Memory for the nesting of a slice, for the names that `required` lists, for the values of `enum` or `const`, or for a
+    /// pattern is wanting.
     #[error("OutOfMemory")]
     OutOfMemory,
 }
@@ -109,6 +122,8 @@ impl JudgeError {
             KeywordError::NotAnObject => JudgeError::NotAnObject,
             KeywordError::UnknownKeyword { member } => JudgeError::UnknownKeyword { member },
             KeywordError::BadKeyword { member } => JudgeError::BadKeyword { member },
+            KeywordError::BadPattern { member } => JudgeError::BadPattern { member },
+            KeywordError::PatternNotLiteral { member } => JudgeError::PatternNotLiteral { member },
             KeywordError::TooDeep { member } => JudgeError::TooDeep { member },
             KeywordError::Unbuilt => JudgeError::Unbuilt,
             KeywordError::OutOfMemory => JudgeError::OutOfMemory,

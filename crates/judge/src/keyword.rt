@@ -32,6 +32,8 @@ pub(crate) enum Keyword {
     Least(Measure),
     /// A count is at most a limit: `maxLength` and its like.
     Greatest(Measure),
+    /// A string is one in which a pattern matches: `pattern`.
+    Pattern,
     /// An object has each of these keys: `required`.
     Required,
 }
@@ -55,6 +57,7 @@ impl Keyword {
             "maxItems" => Some(Keyword::Greatest(Measure::Elements)),
             "minProperties" => Some(Keyword::Least(Measure::Members)),
             "maxProperties" => Some(Keyword::Greatest(Measure::Members)),
+            "pattern" => Some(Keyword::Pattern),
             "required" => Some(Keyword::Required),
             _ => None,
         }
@@ -65,7 +68,7 @@ impl Keyword {
         ensures { result ≡ list_any (bytes_eq name.now) to_come }
     {
         match name {
-            "uniqueItems" | "pattern" => true,
+            "uniqueItems" => true,
             _ => false,
         }
     }

@@ -13,7 +13,7 @@ use json_semantics::ValueNode;
 use std::alloc::Global;
 
 /// Whether the document is valid under the keyword object, by JSON Schema 2020-12. It takes memory for the names that
-/// `required` lists, and for the values of `enum` and `const`, alone.
+/// `required` lists, for the values of `enum` and `const`, and for a pattern, alone.
 pub fn judge_values(alloc: Global, keywords: &Value, document: &Value) -> Result<bool, KeywordError>
     ensures right { (result ≡ Err KeywordError.OutOfMemory)
         ⊎ RightOnTrees (tree keywords.now) (tree document.now) result }

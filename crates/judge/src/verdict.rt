@@ -17,8 +17,9 @@ use std::alloc::Global;
 /// Whether the document is valid under the keyword object, both as PostgreSQL `jsonb` bytes, by JSON Schema 2020-12.
 ///
 /// The keywords are read whole, in place, and where they have no fault the document is too, whether a keyword looks at a part
-/// or not. Memory is taken for the nesting, for the names that `required` lists, and for the values of `enum` and `const`.
-/// Where no container of either stands inside another, and no member is `const`, want of memory is never answered, and neither
+/// or not. Memory is taken for the nesting, for the names that `required` lists, for the values of `enum` and `const`, and for
+/// a pattern. Where no container of either stands inside another, and no member is `const` or `pattern`,
+/// want of memory is never answered, and neither
 /// where the keywords alone are so and are refused. Each name that `required` lists walks over the document's keys.
 pub fn judge(alloc: Global, keywords: &[u8], document: &[u8]) -> Result<bool, JudgeError>
     ensures right { (result ≡ Err JudgeError.OutOfMemory) ⊎ Right keywords.now document.now result }

@@ -521,6 +521,35 @@ const ROWS: &[Row] = &[
         BAD,
     ),
     ("required", Json::Texts(&["a", "b", "a"]), Json::Null, BAD),
+    // literal patterns, and strings that are none
+    ("pattern", Json::Text("^a"), Json::Text("ab"), VALID),
+    ("pattern", Json::Text("^a"), Json::Text("ba"), INVALID),
+    ("pattern", Json::Text("^a"), Json::Null, VALID),
+    ("pattern", Json::Text("^a\\.$"), Json::Text("a."), VALID),
+    ("pattern", Json::Text("^a\\.$"), Json::Text("ab"), INVALID),
+    ("pattern", Json::Text("^a$"), Json::Text("ab"), INVALID),
+    ("pattern", Json::Text("^(b|a)$"), Json::Text("a"), VALID),
+    ("pattern", Json::Text("^(b|a)$"), Json::Text("ba"), INVALID),
+    ("pattern", Json::Text("^\\S*$"), Json::Text("\u{e9}"), VALID),
+    (
+        "pattern",
+        Json::Text("^\\S*$"),
+        Json::Text("a\u{feff}"),
+        INVALID,
+    ),
+    (
+        "pattern",
+        Json::Text("a"),
+        Json::Text("a"),
+        Err(KeywordError::PatternNotLiteral { member: 0 }),
+    ),
+    (
+        "pattern",
+        Json::Text("("),
+        Json::Text("("),
+        Err(KeywordError::BadPattern { member: 0 }),
+    ),
+    ("pattern", Json::Null, Json::Null, BAD),
 ];
 
 fn texts_of(alloc: Global, texts: &[&str]) -> Option<Vec<Value>> {

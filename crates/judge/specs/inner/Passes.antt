@@ -1,10 +1,10 @@
 -- Which documents pass compiled checks, and what a member that is taken in adds to them. The code's own words.
-use Rattle.std.specs.Prelude.{List, [], ◌∷◌, ◌++◌, ℕ, pos, ◌*◌, ◌≤◌, ◌<ℤ◌, ◌≡◌, ◌↔◌, IsTrue, IsSome, IsSomeAnd, map, String, string_bytes, Option, Some, None, IfSome}
+use Rattle.std.specs.Prelude.{List, [], ◌∷◌, ◌++◌, ℕ, pos, ◌*◌, ◌≤◌, ◌<ℤ◌, ◌≡◌, ◌↔◌, IsTrue, IsSome, IsSomeAnd, map, String, string_bytes, Option, Some, None, IfSome, ⊤}
 use Rattle.json_exact.specs.Exact.{exactly, parts}
 use Rattle.json_exact.specs.Trees.{tree}
 use Rattle.json_exact.specs.declared.value.Value.{Value}
 use Rattle.json_model.specs.Decimal.{Decimal}
-use Rattle.json_model.specs.Parts.{as_array, as_number, as_object, elements_of, lookup}
+use Rattle.json_model.specs.Parts.{as_array, as_number, as_object, as_string, elements_of, lookup, points}
 use Rattle.json_model.specs.Same.{Same}
 use Rattle.json_model.specs.Tree.{Tree}
 use Rattle.json_semantics.specs.Bounds.{Keeps}
@@ -17,8 +17,12 @@ use Rattle.json_traits.specs.Sets.{holds}
 use Rattle.json_traits.specs.declared.types.json_type.JsonType.{JsonType}
 use Rattle.json_traits.specs.declared.types.set.JsonTypeSet.{JsonTypeSet}
 use Rattle.std.specs.List.{AllByRecursion}
+use Rattle.jsonschema_regex.specs.Analyses.{kept_of}
+use Rattle.jsonschema_regex.specs.declared.literal_pattern.LiteralPattern.{LiteralPattern}
+use Rattle.pattern_model.specs.Literals.{Hits}
 use Rattle.judge.specs.Names.{keyword_of}
-use Rattle.judge.specs.Validity.{AreTypeNames, HasForm, IsFair, KeepsDeep, Suits, TakesMemory}
+use Rattle.judge.specs.Patterns.{IsPattern}
+use Rattle.judge.specs.Validity.{AreTypeNames, HasForm, IsFair, IsNoPattern, KeepsDeep, NeedsEngine, Suits, TakesMemory}
 use Rattle.judge.specs.Verdict.{IsAmong, IsNamed, IsOneOf, Reaches, IsUpTo, count_of, Holds, HoldsAt}
 use Rattle.judge.specs.declared.checks.Checks.{Checks}
 use Rattle.judge.specs.declared.bounds.Bounds.{Bounds}
@@ -26,9 +30,9 @@ use Rattle.judge.specs.declared.limits.Limit.{Limit}
 use Rattle.judge.specs.declared.limits.Limit.TheVariants.{Small, Large}
 use Rattle.judge.specs.declared.limits.Limits.{Limits}
 use Rattle.judge.specs.declared.errors.KeywordError.{KeywordError}
-use Rattle.judge.specs.declared.errors.KeywordError.TheVariants.{NotAnObject, UnknownKeyword, BadKeyword, TooDeep, Unbuilt, OutOfMemory}
+use Rattle.judge.specs.declared.errors.KeywordError.TheVariants.{NotAnObject, UnknownKeyword, BadKeyword, BadPattern, PatternNotLiteral, TooDeep, Unbuilt, OutOfMemory}
 use Rattle.judge.specs.declared.keyword.Keyword.{Keyword}
-use Rattle.judge.specs.declared.keyword.Keyword.TheVariants.{«Type», Enum, Const, Bound, Least, Greatest, Required}
+use Rattle.judge.specs.declared.keyword.Keyword.TheVariants.{«Type», Enum, Const, Bound, Least, Greatest, Pattern, Required}
 use Rattle.judge.specs.declared.keyword.Measure.{Measure}
 use Rattle.judge.specs.declared.keyword.Measure.TheVariants.{CodePoints, Elements, Members}
 
@@ -63,6 +67,21 @@ IsListed d values = IsOneOf d (map tree values)
 -- the values ask for what `enum` with v asks for
 abbrev pub AreListed : Tree → List Value → Type 0
 AreListed v values = (d : Tree) → IsListed d values ↔ Holds Enum v d
+
+-- the analysis hits the document, where it is a string
+abbrev pub IsHit : Tree → LiteralPattern → Type 0
+IsHit d a = IfSome (as_string d) (λ y. Hits (kept_of a) (points y))
+
+-- the analysis asks for what `pattern` with v asks for
+abbrev pub IsPatternOf : Tree → LiteralPattern → Type 0
+IsPatternOf v a = (d : Tree) → IsHit d a ↔ Holds Pattern v d
+
+-- why a string that is not a literal pattern is refused, as the value of member number m
+abbrev pub IsRefusal : ℕ → List ℕ → KeywordError → Type 0
+IsRefusal m s (BadPattern n) = (n ≡ m) × (IsPattern s → ⊥)
+IsRefusal m s (PatternNotLiteral n) = (n ≡ m) × IsPattern s
+IsRefusal m s OutOfMemory = ⊤
+IsRefusal m s _ = ⊥
 
 -- the number keeps the bound
 abbrev pub IsWithin : CompiledBound → Decimal → Type 0
@@ -120,6 +139,7 @@ pub record Passes (c : Checks) (d : Tree) : Type 0 where
   pub code_points : IfSome (count_of CodePoints d) (IsBetween c.code_points)
   pub elements : IfSome (count_of Elements d) (IsBetween c.elements)
   pub members : IfSome (count_of Members d) (IsBetween c.members)
+  pub pattern : IfSome c.pattern (IsHit d)
   pub required : IfSome c.required (λ names. IfSome (as_object d) (HasKeys names.items))
 
 -- nothing was compiled for the keyword yet
@@ -130,6 +150,7 @@ IsFree Const c = c.constant ≡ None
 IsFree (Bound op) c = bound_at op c.bounds ≡ None
 IsFree (Least measure) c = (limits_at measure c).least ≡ None
 IsFree (Greatest measure) c = (limits_at measure c).greatest ≡ None
+IsFree Pattern c = c.pattern ≡ None
 IsFree Required c = c.required ≡ None
 
 -- new checks what old checks, and what the keyword w with the value v asks
@@ -147,6 +168,8 @@ abbrev pub AddFault : ℕ → Keyword → Tree → KeywordError → Type 0
 AddFault m w v NotAnObject = ⊥
 AddFault m w v (UnknownKeyword n) = ⊥
 AddFault m w v (BadKeyword n) = (n ≡ m) × (HasForm w v → ⊥)
+AddFault m w v (BadPattern n) = (n ≡ m) × IsNoPattern w v
+AddFault m w v (PatternNotLiteral n) = (n ≡ m) × NeedsEngine w v
 AddFault m w v (TooDeep n) = (n ≡ m) × HasForm w v × KeepsDeep w v
 AddFault m w v Unbuilt = ⊥
 AddFault m w v OutOfMemory = TakesMemory w v

@@ -1,4 +1,5 @@
-use Rattle.judge.proofs.Adding.{adds_bound, adds_greatest, adds_least, adds_listed}
+use Rattle.judge.proofs.Adding.{adds_bound, adds_greatest, adds_least, adds_listed, adds_pattern}
+use Rattle.judge.proofs.PatternVerdicts.{pattern_is, pattern_suits}
 use Rattle.judge.proofs.checks.Checks.add.Goals as goal
 
 pub returns-in_ok-read_listed-in-Enum-clause-ok : goal.returns-in_ok-read_listed-in-Enum-clause-ok
@@ -24,3 +25,11 @@ returns-in_ok-read_limit-in-Greatest-clause-ok g c =
     rw c.in-Greatest.is (adds_greatest c.args.self.now (g.N.HasTree.tree c.args.value.now) c.in-Greatest.measure
     c.in_ok-read_limit-in-Greatest.field-0 c.set_greatest.new.self
     c.in_ok-read_limit-in-Greatest.ensures c.set_greatest.ensures.passes c.set_greatest.ensures.frees)
+
+pub returns-in_ok-read_pattern-in-Pattern-clause-ok : goal.returns-in_ok-read_pattern-in-Pattern-clause-ok
+returns-in_ok-read_pattern-in-Pattern-clause-ok g c =
+    let v = g.N.HasTree.tree c.args.value.now in
+    let kept = c.in_ok-read_pattern-in-Pattern.field-0 in
+    let is = c.in_ok-read_pattern-in-Pattern.ensures in
+    let free = rw c.in-Pattern.is at c.requires in
+    rw c.in-Pattern.is (adds_pattern c.args.self.now v kept free (pattern_suits v kept is) (pattern_is v kept is))

@@ -5,7 +5,7 @@ use Rattle.std.specs.Cmp.Lexicographic.{pointwise}
 use Rattle.std.specs.Str.{chars}
 use Rattle.pattern_model.specs.Members.{is_space}
 use Rattle.jsonschema_regex.proofs.HitLaws.{among, none_pass}
-use Rattle.jsonschema_regex.proofs.pattern_analysis.PatternAnalysis.hits.Goals as goal
+use Rattle.jsonschema_regex.proofs.literal_pattern.LiteralPattern.hits.Goals as goal
 
 pub returns-in-Alternation : goal.returns-in-Alternation
 returns-in-Alternation c =

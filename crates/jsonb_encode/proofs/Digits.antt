@@ -1,8 +1,8 @@
 -- The digits of a number in base 10000, one after another, and the zeros at their end.
-use Rattle.std.proofs.Common.{◌≡◌, ℕ, zero, suc, ◌+◌, ◌-◌, ◌*◌, ◌/◌, ◌%◌, ◌^◌, ◌<◌, ◌≤◌, Bool, true, false, eqb, ltb, cond, List, [], ◌∷◌, ◌++◌, length, refl, sym, ap, subst, ◌∙◌, arith, inl, inr}
+use Rattle.std.proofs.Common.{◌≡◌, ℕ, zero, suc, ◌+◌, ◌-◌, ◌*◌, ◌/◌, ◌%◌, ◌^◌, ◌<◌, ◌≤◌, Bool, true, false, eqb, cond, List, [], ◌∷◌, ◌++◌, length, refl, sym, ap, subst, ◌∙◌, arith, inl, inr}
 use Rattle.std.specs.Prelude.{◌&&◌}
 use Rattle.std.proofs.Math.Nat.{pow-suc, mul-div_cancel, mul-mod_left, div-div-eq-div-mul, mul-lt-mul_of_pos_right}
-use Rattle.std.proofs.lemmas.Nat.{pow-add, div-add-mod', div-mul-add, mod-mul-add, div_below, mod_below, le-div}
+use Rattle.std.proofs.lemmas.Nat.{pow-add, div-add-mod', div-mul-add, mod-mul-add, div_below, mod_below}
 use Rattle.std.proofs.lemmas.Bool.{lt-ltb, ne_eqb, cases_lt}
 use Rattle.json_exact.specs.Digits.{spread, count_of}
 use Rattle.json_exact.specs.LeadingDigitsLaws.{power_pos, count_is}
@@ -160,8 +160,8 @@ no_digits (suc fuel) x le h =
 pub below_top : (x j : ℕ) → ((i : ℕ) → j ≤ i → x / 10000 ^ i % 10000 ≡ 0) → x < 10000 ^ j
 below_top x j h =
     let z = no_digits (x / 10000 ^ j) (x / 10000 ^ j) (omega arith) (λ i.
-        let le : j ≤ j + i = omega arith in
-        ap (λ (y : ℕ). y % 10000) (div-div-eq-div-mul x (10000 ^ j) (10000 ^ i) ∙ ap (λ (p : ℕ). x / p) (sym (pow-add 10000 j i))) ∙ h (j + i) le) in
+    let le : j ≤ j + i = omega arith in
+    ap (λ (y : ℕ). y % 10000) (div-div-eq-div-mul x (10000 ^ j) (10000 ^ i) ∙ ap (λ (p : ℕ). x / p) (sym (pow-add 10000 j i))) ∙ h (j + i) le) in
     let whole = div-add-mod' x (10000 ^ j) in
     let small = mod_below x (10000 ^ j) (base_pos j) in
     done x (x / 10000 ^ j) (x % 10000 ^ j) (10000 ^ j) z whole small

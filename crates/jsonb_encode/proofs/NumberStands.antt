@@ -1,12 +1,12 @@
 -- The bytes of a number stand for it.
-use Rattle.std.proofs.Common.{◌≡◌, ℕ, zero, suc, ◌+◌, ◌-◌, ◌*◌, ◌/◌, ◌%◌, ◌^◌, ◌<◌, ◌≤◌, ◌⊎◌, Bool, true, false, cond, eqb, ltb, leb, List, [], ◌∷◌, ◌++◌, length, get_or, refl, sym, ap, subst, ◌∙◌, arith, inl, inr, ℤ, pos, negsuc, nat_abs}
-use Rattle.std.specs.Prelude.{◌&&◌, IsTrue, int_lt, if◌then◌else◌}
+use Rattle.std.proofs.Common.{◌≡◌, ℕ, zero, suc, ◌+◌, ◌-◌, ◌*◌, ◌/◌, ◌%◌, ◌^◌, ◌<◌, ◌≤◌, ◌⊎◌, Bool, true, false, cond, ltb, leb, List, [], ◌∷◌, ◌++◌, length, get_or, refl, sym, ap, subst, ◌∙◌, arith, inl, inr, ℤ, pos, negsuc, nat_abs}
+use Rattle.std.specs.Prelude.{◌&&◌, IsTrue, int_lt}
 use Rattle.std.specs.Int.{w16, w32, to_le_bytes}
 use Rattle.std.specs.List.{flat_map}
 use Rattle.std.proofs.Math.Nat.{pow-suc, mul-lt-mul_of_pos_right, mul-le-mul_right}
-use Rattle.std.proofs.lemmas.Bool.{cases_lt, ne_eqb, eq-eqb, eqb-true, eqb-false, ltb-true, leb-true, lt-ltb, le-ltb, and_parts}
+use Rattle.std.proofs.lemmas.Bool.{cases_lt, ne_eqb, eq-eqb, ltb-true, leb-true, lt-ltb, le-ltb, and_parts}
 use Rattle.std.proofs.lemmas.List.{length-append}
-use Rattle.std.proofs.lemmas.Nat.{pow-add, mod_below, le-div, div_below}
+use Rattle.std.proofs.lemmas.Nat.{pow-add, mod_below, le-div}
 use Rattle.json_model.specs.Decimal.{Decimal, HasNarrowDigits, IsNarrow}
 use Rattle.json_exact.specs.Digits.{spread, count_of}
 use Rattle.json_exact.specs.Parsed.{IsInRange}
@@ -16,7 +16,7 @@ use Rattle.json_exact.specs.NumberInverseLaws.{sign_abs}
 use Rattle.json_exact.proofs.DigitLaws.{power_mono, none_of}
 use Rattle.json_exact.proofs.GroupLaws.{fours}
 use Rattle.json_exact.proofs.NarrowLaws.{narrow_more, narrow_back, wide_group}
-use Rattle.jsonb_layout.specs.Numeric.{IsVarlena, bit, short_lift, long_lift, IsShort, IsLong, joined, all_below, are_groups, signed, IsValue, Numeric}
+use Rattle.jsonb_layout.specs.Numeric.{IsVarlena, short_lift, long_lift, IsShort, IsLong, joined, are_groups, IsValue, Numeric}
 use Rattle.jsonb_layout.specs.declared.header.Header.{Header}
 use Rattle.jsonb_encode.specs.Number.{fraction_groups, magnitude, groups, group_count, lift, trimmed, header, is_short, head, short_head, long_head, varlena, body, numeric, fits}
 use Rattle.jsonb_encode.specs.declared.number_form.NumericForm.{NumericForm}
@@ -85,9 +85,9 @@ shape_of d some =
     let m : a.0 ≡ (a.0 - z) + z = omega arith in
     let count : group_count d ≡ suc a.0 = count_is 10000 n a.0 (omega arith) a.1 a.2 in
     let below : y < 10000 ^ suc (a.0 - z) = under y (10000 ^ suc (a.0 - z)) (10000 ^ z)
-        (subst (λ (x : ℕ). x < 10000 ^ suc (a.0 - z) * 10000 ^ z) b.2 (subst (λ (x : ℕ). n < x) (ap (λ (e : ℕ). 10000 ^ e) k ∙ pow-add 10000 (suc (a.0 - z)) z) a.2)) in
+    (subst (λ (x : ℕ). x < 10000 ^ suc (a.0 - z) * 10000 ^ z) b.2 (subst (λ (x : ℕ). n < x) (ap (λ (e : ℕ). 10000 ^ e) k ∙ pow-add 10000 (suc (a.0 - z)) z) a.2)) in
     let first : 10000 ^ (a.0 - z) ≤ y = over (10000 ^ (a.0 - z)) y (10000 ^ z) (base_pos z)
-        (subst (λ (x : ℕ). 10000 ^ (a.0 - z) * 10000 ^ z ≤ x) b.2 (subst (λ (x : ℕ). x ≤ n) (ap (λ (e : ℕ). 10000 ^ e) m ∙ pow-add 10000 (a.0 - z) z) a.1)) in
+    (subst (λ (x : ℕ). 10000 ^ (a.0 - z) * 10000 ^ z ≤ x) b.2 (subst (λ (x : ℕ). x ≤ n) (ap (λ (e : ℕ). 10000 ^ e) m ∙ pow-add 10000 (a.0 - z) z) a.1)) in
     record {
       under = a.0 - z;
       zeros = z;

@@ -1,5 +1,5 @@
 -- Numbers of values are exact, and are written as items.
-use Rattle.std.proofs.Common.{◌≡◌, ℕ, ◌+◌, ◌-◌, ◌*◌, ◌^◌, ◌<◌, ◌≤◌, List, ◌++◌, refl, sym, ap, subst, ◌∙◌, append_assoc, arith, ℤ, nat_abs}
+use Rattle.std.proofs.Common.{◌≡◌, ℕ, ◌*◌, ◌^◌, ◌<◌, ◌≤◌, List, ◌++◌, refl, sym, ap, subst, ◌∙◌, append_assoc, arith, ℤ, nat_abs}
 use Rattle.std.proofs.Math.Nat.{lt_of_mul-lt-mul_right}
 use Rattle.std.proofs.lemmas.Nat.{pow-add}
 use Rattle.json_model.specs.Decimal.{Decimal, IsNarrow}
@@ -8,7 +8,7 @@ use Rattle.json_exact.specs.Exact.{IsWorth, IsWithinLimits, limit, parts}
 use Rattle.json_exact.specs.Parsed.{IsInRange}
 use Rattle.json_exact.specs.DecimalInverseLaws.{ten_pos}
 use Rattle.json_exact.proofs.SignLaws.{abs_times}
-use Rattle.json_exact.proofs.WorthLaws.{parts_pos, narrow_as_written}
+use Rattle.json_exact.proofs.WorthLaws.{narrow_as_written}
 use Rattle.jsonb_layout.specs.Stands.{padding}
 use Rattle.jsonb_encode.specs.Encoded.{item}
 use Rattle.jsonb_encode.specs.Number.{numeric}

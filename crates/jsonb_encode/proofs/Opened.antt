@@ -1,7 +1,6 @@
 -- A container whose items are written one after another.
-use Rattle.std.proofs.Common.{◌≡◌, ℕ, zero, suc, ◌+◌, ◌-◌, ◌*◌, ◌^◌, ◌<◌, ◌≤◌, List, [], ◌∷◌, ◌++◌, length, take, drop, replicate, refl, sym, ap, ◌∙◌, append_assoc, arith}
+use Rattle.std.proofs.Common.{◌≡◌, ℕ, suc, ◌+◌, ◌-◌, ◌*◌, ◌^◌, ◌<◌, ◌≤◌, List, [], ◌∷◌, ◌++◌, length, take, drop, replicate, refl, sym, ap, ◌∙◌, append_assoc, arith}
 use Rattle.std.specs.Int.{w32, to_le_bytes}
-use Rattle.std.specs.List.{flat_map}
 use Rattle.std.proofs.lemmas.Grind.{flat_map-append}
 use Rattle.std.proofs.lemmas.List.{append-nil, length-append, length-replicate, replicate-append-replicate, take_at, drop_at}
 use Rattle.jsonb_layout.specs.Layout.{Item, pieces, entry, entries, words, flags}
@@ -67,8 +66,13 @@ pub opened_length : (f : Form) (count n : ℕ) (xs : List Item) → length xs �
 unfolding opened
 opened_length f count n xs le =
     let z : List ℕ = replicate (4 * (n - length xs)) 0 in
-    omega (arith, length-append (front f count xs) (z ++ pieces xs), length-append z (pieces xs), front_length f count xs,
-    length-replicate {A = ℕ} (4 * (n - length xs)) 0)
+    omega (
+      arith,
+      length-append (front f count xs) (z ++ pieces xs),
+      length-append z (pieces xs),
+      front_length f count xs,
+      length-replicate {A = ℕ} (4 * (n - length xs)) 0,
+    )
 
 -- where all items are written, it is the container
 pub opened_whole : (f : Form) (count n : ℕ) (xs : List Item) → length xs ≡ n → opened f count n xs ≡ container f count xs

@@ -30,10 +30,10 @@ scaled d w worth le =
     let i : suc (16383 - f) ≡ (4 * F - f) + 4 * (4096 - F) = omega arith in (
       omega arith,
       ap (λ (x : ℕ). x * 10) (worth_in_parts d w worth le)
-      ∙ products c (10 ^ (16383 - f)) 10
-      ∙ ap (λ (x : ℕ). c * x) (sym (pow-suc 10 (16383 - f)) ∙ ap (λ (k : ℕ). 10 ^ k) i ∙ pow-add 10 (4 * F - f) (4 * (4096 - F)))
-      ∙ sym (products c (10 ^ (4 * F - f)) (10 ^ (4 * (4096 - F))))
-      ∙ ap (λ (x : ℕ). c * 10 ^ (4 * F - f) * x) (sym (fours (4096 - F))),
+          ∙ products c (10 ^ (16383 - f)) 10
+          ∙ ap (λ (x : ℕ). c * x) (sym (pow-suc 10 (16383 - f)) ∙ ap (λ (k : ℕ). 10 ^ k) i ∙ pow-add 10 (4 * F - f) (4 * (4096 - F)))
+          ∙ sym (products c (10 ^ (4 * F - f)) (10 ^ (4 * (4096 - F))))
+          ∙ ap (λ (x : ℕ). c * 10 ^ (4 * F - f) * x) (sym (fours (4096 - F))),
     )
   where
     products : (x y z : ℕ) → x * y * z ≡ x * (y * z)
@@ -137,7 +137,7 @@ run first (suc k) top n N F s e le lt =
     let more : x / 10000 ≡ N / 10000 ^ suc i = div-div-eq-div-mul N (10000 ^ i) 10000 ∙ ap (λ (p : ℕ). N / p) (sym (pow-suc 10000 i)) in
     let b : suc k + i ≡ suc top = omega arith in
     let small : x < 10000 ^ suc k = div_below N (10000 ^ i) (10000 ^ suc k) (base_pos i)
-        (subst (λ (p : ℕ). N < p) (ap (λ (t : ℕ). 10000 ^ t) (sym b) ∙ pow-add 10000 (suc k) i) lt) in
+    (subst (λ (p : ℕ). N < p) (ap (λ (t : ℕ). 10000 ^ t) (sym b) ∙ pow-add 10000 (suc k) i) lt) in
     ap (λ (g : ℕ). groups_down first k n ++ g ∷ []) (sym (digit (first -ℤ pos k) i n N F s at))
     ∙ ap (λ (gs : List ℕ). gs ++ (x % 10000) ∷ [])
     (run first k top n N F s e (omega arith) lt ∙ ap (λ (t : ℕ). spread 10000 k (N / 10000 ^ t)) m ∙ ap (λ (y : ℕ). spread 10000 k y) (sym more))

@@ -1,12 +1,11 @@
 -- An object of one key that is any bytes, with null under it.
-use Rattle.std.proofs.Common.{◌≡◌, ℕ, ◌+◌, ◌*◌, ◌^◌, ◌<◌, ◌≤◌, List, [], ◌∷◌, ◌++◌, length, refl, sym, ap, ◌∙◌, arith}
+use Rattle.std.proofs.Common.{ℕ, ◌^◌, ◌<◌, List, [], ◌∷◌, ◌++◌, length, refl, ap, ◌∙◌, arith}
 use Rattle.std.proofs.lemmas.List.{length-append}
-use Rattle.json_model.specs.Tree.{Tree, scalar, null, object, member, no_members}
-use Rattle.jsonb_layout.specs.Layout.{pieces}
+use Rattle.json_model.specs.Tree.{scalar, null, object, member, no_members}
 use Rattle.jsonb_layout.specs.Stands.{Stands}
 use Rattle.jsonb_layout.specs.declared.form.Form.TheVariants.{Object}
-use Rattle.jsonb_encode.specs.Encoded.{container, item, encoded, canonical, object_items}
-use Rattle.jsonb_encode.specs.Limits.{IsWithinLimits, IsOfValue}
+use Rattle.jsonb_encode.specs.Encoded.{item, encoded, canonical}
+use Rattle.jsonb_encode.specs.Limits.{IsWithinLimits}
 use Rattle.jsonb_encode.specs.declared.number_form.NumericForm.TheVariants.{Short}
 use Rattle.jsonb_encode.specs.inner.Writing.{item_of, IsOpen, IsKeyAlone}
 use Rattle.jsonb_encode.proofs.Opened.{opened_whole}

@@ -1,21 +1,21 @@
 -- A value as the root of a slice.
-use Rattle.std.proofs.Common.{◌≡◌, ℕ, suc, ◌+◌, ◌-◌, ◌*◌, ◌^◌, ◌<◌, ◌≤◌, ◌⊎◌, Bool, true, false, List, [], ◌∷◌, ◌++◌, length, Result, Ok, Err, refl, sym, ap, subst, ◌∙◌, arith, inl, inr}
-use Rattle.std.specs.Prelude.{IfOk, IfErr, IsTrue, ◌&&◌, ◌↔◌}
+use Rattle.std.proofs.Common.{◌≡◌, ℕ, ◌⊎◌, Bool, true, false, List, [], ◌∷◌, ◌++◌, Result, Ok, Err, refl, sym, ap, subst, ◌∙◌, arith, inl, inr}
+use Rattle.std.specs.Prelude.{IfOk, IfErr, ◌&&◌, ◌↔◌}
 use Rattle.std.proofs.lemmas.Result.{IfOk-weaker, IfErr-weaker}
 use Rattle.json_model.specs.Tree.{Scalar, null, boolean, number, string, Tree, scalar, array, object, Elements, no_elements, element, Members, no_members, member}
 use Rattle.std.proofs.lemmas.List.{length-append}
 use Rattle.json_model.specs.Decimal.{Decimal}
-use Rattle.jsonb_layout.specs.Layout.{Item, pieces}
-use Rattle.jsonb_layout.specs.declared.form.Form.TheVariants.{Array, Object, Lone}
-use Rattle.jsonb_encode.specs.Encoded.{container, scalar_item, item, encoded}
-use Rattle.jsonb_encode.specs.Limits.{scalar_fits, all_fit, elements_fit, members_fit, AreSmall, IsWithinLimits, IsOfValue}
+use Rattle.jsonb_layout.specs.Layout.{Item}
+use Rattle.jsonb_layout.specs.declared.form.Form.TheVariants.{Lone}
+use Rattle.jsonb_encode.specs.Encoded.{item, encoded}
+use Rattle.jsonb_encode.specs.Limits.{scalar_fits, all_fit, elements_fit, members_fit}
 use Rattle.jsonb_encode.specs.Number.{fits}
 use Rattle.jsonb_encode.specs.declared.error.EncodeError.{EncodeError}
-use Rattle.jsonb_encode.specs.declared.error.EncodeError.TheVariants.{DoesNotFit, TooLarge, OutOfMemory}
+use Rattle.jsonb_encode.specs.declared.error.EncodeError.TheVariants.{DoesNotFit}
 use Rattle.jsonb_encode.specs.declared.number_form.NumericForm.{NumericForm}
-use Rattle.jsonb_encode.specs.declared.number_form.NumericForm.TheVariants.{Short, Long, ShortVarlena}
-use Rattle.jsonb_encode.specs.inner.Writing.{opened, item_of, IsOpen, IsWritten, IsWhole, IsUnwritten, IsLone, IsNotLone, IsRoot, IsNoRoot}
-use Rattle.jsonb_encode.proofs.Opened.{opened_whole, open_length}
+use Rattle.jsonb_encode.specs.declared.number_form.NumericForm.TheVariants.{Short, Long}
+use Rattle.jsonb_encode.specs.inner.Writing.{item_of, IsOpen, IsWritten, IsWhole, IsUnwritten, IsLone, IsNotLone, IsRoot, IsNoRoot}
+use Rattle.jsonb_encode.proofs.Opened.{opened_whole}
 
 -- the one item is written, and its word is set
 pub lone_is : (f : NumericForm) (t : Tree) (at kind : ℕ) (base mid old new : List ℕ) → at ≡ 0 → IsWritten f t at mid old kind

@@ -1,5 +1,5 @@
 -- The groups of a number that are written, and the weight.
-use Rattle.std.proofs.Common.{◌≡◌, ℕ, zero, suc, ◌+◌, ◌-◌, ◌*◌, ◌/◌, ◌%◌, ◌^◌, ◌<◌, ◌≤◌, ◌⊎◌, Bool, true, false, cond, eqb, ltb, leb, List, [], ◌∷◌, ◌++◌, length, refl, sym, ap, subst, ◌∙◌, append_assoc, arith, inl, inr, ℤ, pos, negsuc, nat_abs}
+use Rattle.std.proofs.Common.{◌≡◌, ℕ, zero, suc, ◌+◌, ◌-◌, ◌*◌, ◌/◌, ◌%◌, ◌^◌, ◌<◌, ◌≤◌, Bool, cond, ltb, leb, List, [], ◌∷◌, ◌++◌, length, refl, sym, ap, subst, ◌∙◌, append_assoc, arith, inl, inr, ℤ, pos, negsuc, nat_abs}
 use Rattle.std.specs.Prelude.{◌+ℤ◌, ◌<ℤ◌, ◌≤ℤ◌, int_lt, ◌&&◌, IsTrue}
 use Rattle.std.specs.Int.{w16, w32, to_le_bytes}
 use Rattle.std.specs.List.{flat_map}
@@ -7,7 +7,6 @@ use Rattle.std.proofs.lemmas.List.{length-append}
 use Rattle.std.proofs.lemmas.Int.{ints}
 use Rattle.std.proofs.lemmas.Bool.{cases_lt, ne_eqb, eq-eqb, ltb-true, and_parts}
 use Rattle.std.proofs.lemmas.Nat.{pow-add, mod_below, le-div}
-use Rattle.std.proofs.Math.Nat.{pow-suc, mul-lt-mul_of_pos_right}
 use Rattle.json_model.specs.Decimal.{Decimal, HasNarrowDigits}
 use Rattle.json_exact.specs.DecimalGroups.{group, IsGreatestPlace, IsLeastPlace}
 use Rattle.json_exact.specs.Digits.{spread, count_of}
@@ -24,8 +23,8 @@ use Rattle.jsonb_encode.specs.declared.number_form.NumericForm.{NumericForm}
 use Rattle.jsonb_encode.specs.declared.number_form.NumericForm.TheVariants.{Short, Long, ShortVarlena}
 use Rattle.jsonb_layout.specs.declared.header.Header.{Header}
 use Rattle.jsonb_encode.specs.inner.Writing.{groups_down, lead}
-use Rattle.jsonb_encode.proofs.Digits.{base_pos, Ends, counted, from_top, ends, below_top, not_zero}
-use Rattle.jsonb_encode.proofs.Places.{Scaled, scaled, Spans, spans, all_groups}
+use Rattle.jsonb_encode.proofs.Digits.{base_pos, Ends, counted, from_top, ends}
+use Rattle.jsonb_encode.proofs.Places.{Scaled, scaled, spans, all_groups}
 
 -- the parts are a number of the last groups of 16383 fraction digits
 pub whole_scaled : (n : ℕ) → Scaled n (n * 10) 4096

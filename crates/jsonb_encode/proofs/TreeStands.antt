@@ -1,18 +1,17 @@
 -- The bytes of a tree stand for it.
-use Rattle.std.proofs.Common.{◌≡◌, ℕ, zero, suc, ◌+◌, ◌*◌, ◌^◌, ◌<◌, ◌≤◌, Bool, true, false, List, [], ◌∷◌, ◌++◌, length, map, refl, sym, ap, subst, ◌∙◌, arith}
-use Rattle.std.specs.Prelude.{◌&&◌, IsTrue, ◌↔◌}
+use Rattle.std.proofs.Common.{◌≡◌, ℕ, ◌+◌, ◌<◌, true, false, List, [], ◌∷◌, ◌++◌, length, map, refl, sym, ap, subst, arith}
+use Rattle.std.specs.Prelude.{IsTrue, ◌↔◌}
 use Rattle.std.specs.List.{AllByRecursion}
 use Rattle.std.proofs.lemmas.Bool.{and_parts}
 use Rattle.std.proofs.lemmas.List.{length-append}
-use Rattle.json_model.specs.Keys.{rises}
 use Rattle.json_model.specs.Rising.{KeysRise, KeysRiseInElements, KeysRiseInMembers}
 use Rattle.json_model.specs.Tree.{Scalar, null, boolean, number, string, Tree, scalar, array, object, Elements, no_elements, element, Members, no_members, member, keys}
-use Rattle.jsonb_layout.specs.Layout.{Item, pieces, Laid}
-use Rattle.jsonb_layout.specs.Stands.{padding, key_item, IsScalar, IsItem, AreElements, AreValues, Stands}
-use Rattle.jsonb_layout.specs.declared.form.Form.TheVariants.{Array, Object, Lone}
+use Rattle.jsonb_layout.specs.Layout.{Item, Laid}
+use Rattle.jsonb_layout.specs.Stands.{key_item, IsScalar, IsItem, AreElements, AreValues, Stands}
+use Rattle.jsonb_layout.specs.declared.form.Form.TheVariants.{Array, Object}
 use Rattle.jsonb_encode.specs.Encoded.{container, scalar_item, item, element_items, value_items, array_items, object_items, key_items, key_bytes, count_elements, count_members, encoded, canonical}
 use Rattle.jsonb_encode.specs.Limits.{scalar_fits, all_fit, elements_fit, members_fit, AreSmall, ElementsAreSmall, MembersAreSmall, IsWithinLimits, ScalarIsExact, HasExactNumbers, ElementsHaveExactNumbers, MembersHaveExactNumbers, IsOfValue}
-use Rattle.jsonb_encode.specs.Number.{numeric, fits}
+use Rattle.jsonb_encode.specs.Number.{numeric}
 use Rattle.jsonb_encode.specs.declared.number_form.NumericForm.{NumericForm}
 use Rattle.jsonb_encode.proofs.NumberStands.{number_stands}
 use Rattle.jsonb_encode.proofs.Roots.{short_always}
@@ -92,14 +91,20 @@ object_laid f ms small = record {
 
 mutual
   unfolding item
+
   -- the item of a tree stands for it
   pub item_stands : (f : NumericForm) (t : Tree) (at : ℕ) → KeysRise t → HasExactNumbers t → IsTrue (all_fit f t) → AreSmall f t → IsItem t at (item f t at)
   item_stands f (scalar s) at rise exact fit small = scalar_stands f s at exact fit
   item_stands f (array ts) at rise exact fit small =
       (refl, (container Array (count_elements ts) (array_items f ts), refl, (array_items f ts, array_laid f ts small, elements_stand f ts 0 rise exact fit small.1)))
-  item_stands f (object ms) at rise exact fit small =
-      (refl, (container Object (count_members ms) (object_items f ms), refl,
-        (value_items f ms (key_bytes ms), object_laid f ms small, rise.0, values_stand f ms (key_bytes ms) rise.1 exact fit small.1)))
+  item_stands f (object ms) at rise exact fit small = (
+    refl,
+    (
+      container Object (count_members ms) (object_items f ms),
+      refl,
+      (value_items f ms (key_bytes ms), object_laid f ms small, rise.0, values_stand f ms (key_bytes ms) rise.1 exact fit small.1),
+    ),
+  )
 
   pub elements_stand : (f : NumericForm) (ts : Elements) (at : ℕ) → KeysRiseInElements ts → ElementsHaveExactNumbers ts → IsTrue (elements_fit f ts) → ElementsAreSmall f ts
       → AreElements ts at (element_items f ts at)
@@ -118,15 +123,18 @@ mutual
 -- the bytes of a tree stand for it
 pub tree_stands : (f : NumericForm) (t : Tree) → IsOfValue t → IsTrue (all_fit f t) → IsWithinLimits f t → Stands (encoded f t) t
 unfolding encoded
-tree_stands f (scalar s) h fit within =
-    (scalar_item f s 0, record {
-      count = 1;
-      counted = (refl, refl);
-      count_fits = omega arith;
-      kinds = (scalar_kind f s 0, tt);
-      pieces_fit = omega (arith, length-append (scalar_item f s 0).piece []);
-      bytes = refl;
-    }, scalar_stands f s 0 h.exact fit)
+tree_stands f (scalar s) h fit within = (
+  scalar_item f s 0,
+  record {
+    count = 1;
+    counted = (refl, refl);
+    count_fits = omega arith;
+    kinds = (scalar_kind f s 0, tt);
+    pieces_fit = omega (arith, length-append (scalar_item f s 0).piece []);
+    bytes = refl;
+  },
+  scalar_stands f s 0 h.exact fit,
+)
 tree_stands f (array ts) h fit within = (array_items f ts, array_laid f ts within, elements_stand f ts 0 h.rise h.exact fit within.1)
 tree_stands f (object ms) h fit within =
     (value_items f ms (key_bytes ms), object_laid f ms within, h.rise.0, values_stand f ms (key_bytes ms) h.rise.1 h.exact fit within.1)

@@ -1,12 +1,12 @@
 -- Trees whose items are written one after another.
-use Rattle.std.proofs.Common.{◌≡◌, ℕ, zero, suc, ◌+◌, ◌-◌, ◌*◌, ◌^◌, ◌<◌, ◌≤◌, ◌⊎◌, Bool, true, false, List, [], ◌∷◌, ◌++◌, length, take, drop, get_or, map, Result, Err, refl, sym, ap, subst, ◌∙◌, append_assoc, arith, inl, inr, rules, Global}
+use Rattle.std.proofs.Common.{◌≡◌, ℕ, zero, suc, ◌+◌, ◌-◌, ◌*◌, ◌^◌, ◌<◌, ◌≤◌, Bool, true, List, [], ◌∷◌, ◌++◌, length, take, drop, get_or, map, Result, Err, refl, sym, ap, subst, ◌∙◌, append_assoc, arith, inl, inr, rules, Global}
 use Rattle.std.specs.Prelude.{IfErr, IsTrue, ◌&&◌, string_bytes, if◌then◌else◌, String as Text}
 use Rattle.std.proofs.lemmas.List.{append-nil, length-append}
 use Rattle.std.proofs.lemmas.Bool.{and_parts}
 use Rattle.json_model.specs.Keys.{rises}
 use Rattle.json_model.specs.Parts.{elements_from, members_from}
-use Rattle.json_model.specs.Rising.{KeysRise, KeysRiseInElements, KeysRiseInMembers}
-use Rattle.json_model.specs.Tree.{Scalar, null, boolean, number, string, Tree, scalar, array, object, Elements, no_elements, element, Members, no_members, member, keys}
+use Rattle.json_model.specs.Rising.{KeysRiseInElements, KeysRiseInMembers}
+use Rattle.json_model.specs.Tree.{null, boolean, number, string, Tree, scalar, array, object, Elements, Members, keys}
 use Rattle.json_exact.specs.Trees.{Pairs, tree}
 use Rattle.json_exact.specs.declared.value.Value.{Value, Null, Bool as OfBool, String as OfString, Number as OfNumber, the_lemmas}
 use Rattle.json_model.specs.Decimal.{Decimal}
@@ -14,13 +14,13 @@ use Rattle.jsonb_layout.specs.Layout.{Item, pieces}
 use Rattle.jsonb_layout.specs.Stands.{key_item, padding}
 use Rattle.jsonb_layout.specs.declared.form.Form.{Form}
 use Rattle.jsonb_layout.specs.declared.form.Form.TheVariants.{Array, Object}
-use Rattle.jsonb_encode.specs.Encoded.{container, scalar_item, item, element_items, value_items, array_items, object_items, key_items, key_bytes, count_elements, count_members, encoded}
-use Rattle.jsonb_encode.specs.Limits.{all_fit, elements_fit, members_fit, IsSmall, AreSmall, ElementsAreSmall, MembersAreSmall, HasExactNumbers, ElementsHaveExactNumbers, MembersHaveExactNumbers, IsOfValue, ScalarIsExact}
+use Rattle.jsonb_encode.specs.Encoded.{container, item, element_items, value_items, object_items, key_items, count_elements, count_members, encoded}
+use Rattle.jsonb_encode.specs.Limits.{all_fit, elements_fit, members_fit, AreSmall, ElementsAreSmall, MembersAreSmall, ElementsHaveExactNumbers, MembersHaveExactNumbers, IsOfValue}
 use Rattle.jsonb_encode.specs.declared.error.EncodeError.{EncodeError}
-use Rattle.jsonb_encode.specs.declared.error.EncodeError.TheVariants.{TooLarge, OutOfMemory}
+use Rattle.jsonb_encode.specs.declared.error.EncodeError.TheVariants.{TooLarge}
 use Rattle.jsonb_encode.specs.declared.number_form.NumericForm.{NumericForm}
-use Rattle.jsonb_encode.specs.inner.Writing.{opened, item_of, pair_keys, listed, IsOpen, Keyed, IsUnkeyed, IsWritten, IsWhole, IsUnwritten, AreGood}
-use Rattle.jsonb_encode.proofs.Opened.{pieces_more, pieces_last, opened_whole, open_length}
+use Rattle.jsonb_encode.specs.inner.Writing.{item_of, pair_keys, listed, IsOpen, Keyed, IsUnkeyed, IsWritten, IsWhole, IsUnwritten, AreGood}
+use Rattle.jsonb_encode.proofs.Opened.{pieces_more, opened_whole, open_length}
 
 -- an error that is handed on
 pub err_as : {T : Type 0} (r : Result T EncodeError) (e : EncodeError) (P : EncodeError → Type 0) → r ≡ Err e → P e → IfErr r P
@@ -192,8 +192,13 @@ object_whole f ps before after lt rise open_is good =
     let n = length ps in
     let xs = listed f (pair_keys ps) (map (λ p. p.1) ps) in
     let count : length xs ≡ 2 * n =
-    omega (arith, length-append (pair_keys ps) (element_items f (elements_from (map (λ p. p.1) ps)) (length (pieces (pair_keys ps)))), keys_count ps,
-    items_count f (map (λ p. p.1) ps) (length (pieces (pair_keys ps))), pairs_count ps) in
+    omega (
+      arith,
+      length-append (pair_keys ps) (element_items f (elements_from (map (λ p. p.1) ps)) (length (pieces (pair_keys ps)))),
+      keys_count ps,
+      items_count f (map (λ p. p.1) ps) (length (pieces (pair_keys ps))),
+      pairs_count ps,
+    ) in
     let small : length (pieces (object_items f (members_from ps))) < 2 ^ 28 =
     subst (λ (ys : List Item). length (pieces ys) < 2 ^ 28) (sym (object_listed f ps)) open_is.small in
     record {
@@ -220,13 +225,16 @@ elements_large f us vs t at e a h le = inr (h, λ s. let k = s.0.1 in let n = no
 -- why no object is
 pub unkeyed : (f : NumericForm) (ps : Pairs) (e : EncodeError) → IsUnkeyed ps e → IsUnwritten f (object (members_from ps)) e
 unkeyed f ps e (inl h) = inl h
-unkeyed f ps e (inr h) = inr (h.0, λ s. elim h.1 [
-  | inl many ↦ let k = s.0.0 in absurd (omega (arith, members_count ps))
-  | inr long ↦
-      let k : length (pieces (listed f (pair_keys ps) (map (λ p. p.1) ps))) < 2 ^ 28 =
-      subst (λ (ys : List Item). length (pieces ys) < 2 ^ 28) (object_listed f ps) s.0.1 in
-      absurd (omega (arith, listed_size f (pair_keys ps) (map (λ p. p.1) ps)))
-])
+unkeyed f ps e (inr h) = inr (
+  h.0,
+  λ s. elim h.1 [
+    | inl many ↦ let k = s.0.0 in absurd (omega (arith, members_count ps))
+    | inr long ↦
+        let k : length (pieces (listed f (pair_keys ps) (map (λ p. p.1) ps))) < 2 ^ 28 =
+        subst (λ (ys : List Item). length (pieces ys) < 2 ^ 28) (object_listed f ps) s.0.1 in
+        absurd (omega (arith, listed_size f (pair_keys ps) (map (λ p. p.1) ps)))
+  ],
+)
 
 pub member_large : (f : NumericForm) (ps : Pairs) (us vs : List Tree) (t : Tree) (e : EncodeError) → map (λ p. p.1) ps ≡ us ++ t ∷ vs → IsUnwritten f t e
     → IsUnwritten f (object (members_from ps)) e

@@ -1,7 +1,7 @@
 -- The bytes of a number in each of three forms: a size, a header, and the digits in base 10000 (PostgreSQL, `varatt.h`;
 -- `numeric.c`: `make_result`, `NumericShort`, `NumericLong`). All words are little-endian. The layout allows one number many
 -- bytes; each form writes one of them.
-use Rattle.std.specs.Prelude.{ℕ, ◌+◌, ◌-◌, ◌*◌, ◌/◌, ◌%◌, ◌^◌, Bool, true, false, ◌==◌, ◌&&◌, nat_lt, nat_le, List, [], ◌∷◌, ◌++◌, length, pos, nat_abs, int_lt, if◌then◌else◌}
+use Rattle.std.specs.Prelude.{ℕ, ◌+◌, ◌-◌, ◌*◌, ◌/◌, ◌%◌, ◌^◌, Bool, true, ◌==◌, ◌&&◌, nat_lt, nat_le, List, [], ◌∷◌, ◌++◌, length, pos, nat_abs, int_lt, if◌then◌else◌}
 use Rattle.std.specs.List.{flat_map}
 use Rattle.std.specs.Int.{w16, w32, to_le_bytes}
 use Rattle.json_model.specs.Decimal.{Decimal}

@@ -33,11 +33,7 @@ fn has_form(value: &Value, form: NumericForm) -> bool
 ///
 /// It writes from left to right into one buffer, and sets the word of an item behind its piece. It takes memory for the bytes
 /// alone, and recurses as deep as the value nests.
-pub fn encode_with(
-    alloc: Global,
-    value: &Value,
-    form: NumericForm,
-) -> Result<Vec<u8>, EncodeError>
+pub fn encode_with(alloc: Global, value: &Value, form: NumericForm) -> Result<Vec<u8>, EncodeError>
     ensures bytes { IfOk result (λ bytes. bytes.items ≡ encoded form (tree value.now)) }
     ensures stands { IfOk result (λ bytes. Stands bytes.items (tree value.now)) }
     ensures within { IfOk result (λ _. IsWithinLimits form (tree value.now)) }

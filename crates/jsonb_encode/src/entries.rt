@@ -71,8 +71,8 @@ pub fn close_item(
         → length xs ≡ index → IsOpen f count items xs base mid → length mid ≡ begin
         → bytes.old.items ≡ mid ++ piece
         → MatchResult result
-            (λ _. IsOpen f count items (xs ++ item_of (kind_number kind) piece ∷ []) base bytes.new.items)
-            (λ e. (e ≡ EncodeError.TooLarge) × (2 ^ 28 ≤ length (pieces xs) + length piece)) }
+        (λ _. IsOpen f count items (xs ++ item_of (kind_number kind) piece ∷ []) base bytes.new.items)
+        (λ e. (e ≡ EncodeError.TooLarge) × (2 ^ 28 ≤ length (pieces xs) + length piece)) }
 {
     let upto = bytes.len() - start - 4 * items - 4;
     if upto >= LIMIT {

@@ -15,19 +15,16 @@ ghost use Rattle.jsonb_encode.specs.declared.number_form.NumericForm.TheVariants
 /// The bytes of a narrow number in range, in a form that it has, stand for it in the layout's grammar.
 pub fn numbers_stand()
     ensures { (f : NumericForm) (d : Decimal) → IsNarrow d → IsInRange d → IsTrue (fits f d) → Numeric (numeric f d) d }
-{
-}
+{}
 
 /// The bytes of a tree stand for it in the layout's grammar, where it is the tree of a value, its numbers have the form and its
 /// containers are within the limits. So the grammar has bytes for each such tree.
 pub fn encoded_bytes_stand()
     ensures { (f : NumericForm) (t : Tree) → IsOfValue t → IsTrue (all_fit f t) → IsWithinLimits f t → Stands (encoded f t) t }
-{
-}
+{}
 
 /// The canonical bytes of two trees of values are the same exactly where the trees are, written fraction digits included.
 pub fn canonical_bytes_tell_trees_apart()
     ensures { (t u : Tree) → IsOfValue t → IsOfValue u → IsWithinLimits Short t → IsWithinLimits Short u
         → ((canonical t ≡ canonical u) ↔ (t ≡ u)) }
-{
-}
+{}

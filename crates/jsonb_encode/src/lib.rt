@@ -1,4 +1,28 @@
 //! Bytes of PostgreSQL's `jsonb` that stand for a JSON value in memory.
+//!
+//! [`encode`] gives the bytes that PostgreSQL stores for a value: the one byte string of its canonical form. [`encode_with`] writes
+//! its numbers in one of three forms, a [`NumericForm`]. Both keep the fraction digits that are written: `1` and `1.0` have
+//! different bytes.
+//!
+//! ```text
+//! encode(alloc, &one_point_zero)?;                              // 01000050 08000090 20000000 8080 0100, in hex
+//! encode_with(alloc, &one, NumericForm::Long)?;                 // 01000050 0a000090 28000000 0000 0000 0100
+//! encode_with(alloc, &one, NumericForm::ShortVarlena)?;         // 01000050 05000090 0b 0080 0100
+//! to_hex(alloc, &bytes)?;                                       // two digits for each byte
+//! strip_varlena(&stored)?;                                      // the bytes behind a stored value's header
+//! ```
+//!
+//! The layout is the one of PostgreSQL's `src/include/utils/jsonb.h`, `src/include/varatt.h` and
+//! `src/backend/utils/adt/numeric.c` on a machine with low bytes first. A container is a header word, an entry word for each item,
+//! and the items' pieces. Each 32nd entry, from the first on, holds the sum of all lengths so far, and the others their own. Keys
+//! come first, in order of length and then of bytes, as a `Map` keeps them. Numbers and containers are at the next 4-byte place,
+//! behind zero bytes. [`EncodeError`] says what is refused.
+//!
+//! The writer goes from left to right into one buffer: it writes empty words for the items of a container, and sets each behind its
+//! piece. It takes memory for the bytes alone.
+//!
+//! What the bytes are is said in `specs/`: `Number` for a number in a form, `Encoded` for a tree, `Limits` for when a tree has
+//! bytes, `Varlena` for a stored value's header. [`laws`] says that they stand for what they are made of.
 #![tactic(auto)]
 
 mod buffer;
@@ -22,7 +46,7 @@ pub use hex_text::to_hex;
 pub use number_form::NumericForm;
 pub use varlena::{VarlenaError, strip_varlena};
 
-/// The flags of a root scalar's header.
+/// The flag of a header that marks an array of one item as a root scalar.
 pub const JB_FSCALAR: u32 = 0x1000_0000;
 
 /// The flags of an array's header.

@@ -109,7 +109,10 @@ fn push_short_head(bytes: &mut Vec<u8>, header: Header) -> Result<(), EncodeErro
     ensures err { IfErr result (λ e. e ≡ EncodeError.OutOfMemory) }
 {
     let sign = if header.minus { 0x2000 } else { 0 };
-    push_half(bytes, 0x8000 + sign + 0x80 * header.dscale + header.lift % 0x80)
+    push_half(
+        bytes,
+        0x8000 + sign + 0x80 * header.dscale + header.lift % 0x80,
+    )
 }
 
 fn push_long_head(bytes: &mut Vec<u8>, header: Header) -> Result<(), EncodeError>
@@ -147,13 +150,7 @@ fn head_length(header: Header, form: NumericForm) -> usize
     ensures { result ≡ length (head form header) }
 {
     match form {
-        NumericForm::Short => {
-            if is_short(header) {
-                2
-            } else {
-                4
-            }
-        }
+        NumericForm::Short => { if is_short(header) { 2 } else { 4 } }
         NumericForm::Long => 4,
         NumericForm::ShortVarlena => 2,
     }

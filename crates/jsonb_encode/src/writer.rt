@@ -20,11 +20,7 @@ use json_exact::{Map, Number, Value, laws};
 use jsonb_layout::Form;
 
 /// Writes a number, and learns that it is exact.
-fn write_number(
-    bytes: &mut Vec<u8>,
-    number: &Number,
-    form: NumericForm,
-) -> Result<(), EncodeError>
+fn write_number(bytes: &mut Vec<u8>, number: &Number, form: NumericForm) -> Result<(), EncodeError>
     requires { IsTrue (fits form number.now) }
     ensures ok { IfOk result (λ _. bytes.new.items ≡ bytes.old.items ++ numeric form number.now) }
     ensures exact { IsNarrow number.now × IsInRange number.now }
@@ -124,11 +120,7 @@ fn write_keys(bytes: &mut Vec<u8>, members: &Map) -> Result<(), EncodeError>
 
 /// Writes an object.
 #[cycle(writing)]
-fn write_members(
-    bytes: &mut Vec<u8>,
-    members: &Map,
-    form: NumericForm,
-) -> Result<(), EncodeError>
+fn write_members(bytes: &mut Vec<u8>, members: &Map, form: NumericForm) -> Result<(), EncodeError>
     requires fits { IsTrue (members_fit form (members_from (pairs members.now))) }
     ensures ok { IfOk result (λ _. IsWhole form (object (members_from (pairs members.now)))
         bytes.old.items bytes.new.items) }
@@ -148,11 +140,7 @@ fn write_members(
 }
 
 /// Writes a value as the one item of a container: a root scalar.
-fn write_lone(
-    bytes: &mut Vec<u8>,
-    value: &Value,
-    form: NumericForm,
-) -> Result<(), EncodeError>
+fn write_lone(bytes: &mut Vec<u8>, value: &Value, form: NumericForm) -> Result<(), EncodeError>
     requires fits { IsTrue (all_fit form (tree value.now)) }
     ensures ok { IfOk result (λ _. IsLone form (tree value.now) bytes.old.items bytes.new.items) }
     ensures err { IfErr result (λ e. IsNotLone form (tree value.now) e) }
@@ -165,11 +153,7 @@ fn write_lone(
 }
 
 /// Writes a value whose numbers have the form, with nothing around it.
-pub fn write_root(
-    bytes: &mut Vec<u8>,
-    value: &Value,
-    form: NumericForm,
-) -> Result<(), EncodeError>
+pub fn write_root(bytes: &mut Vec<u8>, value: &Value, form: NumericForm) -> Result<(), EncodeError>
     requires fits { IsTrue (all_fit form (tree value.now)) }
     ensures ok { IfOk result (λ _. IsRoot form (tree value.now) bytes.old.items bytes.new.items) }
     ensures err { IfErr result (λ e. IsNoRoot form (tree value.now) e) }

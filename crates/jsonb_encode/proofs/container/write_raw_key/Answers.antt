@@ -1,4 +1,4 @@
-use Rattle.std.proofs.Common.{◌≡◌, ◌+◌, ◌*◌, ◌^◌, ◌≤◌, ◌⊎◌, [], ◌∷◌, ◌++◌, List, ℕ, length, arith, inl, inr, refl, rules, sym}
+use Rattle.std.proofs.Common.{◌≡◌, ◌^◌, ◌≤◌, ◌⊎◌, [], ◌∷◌, length, arith, inr, refl, rules, sym}
 use Rattle.std.proofs.lemmas.List.{append-nil, length-append}
 use Rattle.std.proofs.lemmas.Result.{MatchResult-weaker}
 use Rattle.jsonb_layout.specs.declared.form.Form.TheVariants.{Object}
@@ -19,7 +19,7 @@ pub returns-in_err-close_item-clause-err : goal.returns-in_err-close_item-clause
 returns-in_err-close_item-clause-err c =
     let e = c.in_err-close_item.field-0.0 in
     let told = c.in_err-close_item.ensures c.args.bytes.now.items c.open_container.new.bytes.items c.args.key.now Object 1 []
-        (omega (arith, c.len-start.ensures)) refl c.in_ok-open_container.ensures.ok (omega (arith, c.len-begin.ensures)) c.in_ok-push_all.ensures.ok in
+    (omega (arith, c.len-start.ensures)) refl c.in_ok-open_container.ensures.ok (omega (arith, c.len-begin.ensures)) c.in_ok-push_all.ensures.ok in
     err_as c.from_residual-in_err-close_item.result e (λ (x : EncodeError). (x ≡ OutOfMemory) ⊎ ((x ≡ TooLarge) × (2 ^ 28 ≤ length c.args.key.now))) (search rules)
     (inr (told.0, omega (arith, told.1)))
 
@@ -28,7 +28,7 @@ close_item-requires-2-clause-begin c =
     let base = c.args.bytes.now.items in
     let key = c.args.key.now in
     let one = c.in_ok-close_item.ensures base c.open_container.new.bytes.items key Object 1 [] (omega (arith, c.len-start.ensures)) refl
-        c.in_ok-open_container.ensures.ok (omega (arith, c.len-begin.ensures)) c.in_ok-push_all.ensures.ok in
+    c.in_ok-open_container.ensures.ok (omega (arith, c.len-begin.ensures)) c.in_ok-push_all.ensures.ok in
     let l = open_length Object 1 2 (item_of 0 key ∷ []) base c.close_item.new.bytes.items (omega arith) one in
     omega (arith, c.len-start.ensures, c.len-end.ensures)
 
@@ -37,9 +37,9 @@ returns-clause-ok c =
     let base = c.args.bytes.now.items in
     let key = c.args.key.now in
     let one = c.in_ok-close_item.ensures base c.open_container.new.bytes.items key Object 1 [] (omega (arith, c.len-start.ensures)) refl
-        c.in_ok-open_container.ensures.ok (omega (arith, c.len-begin.ensures)) c.in_ok-push_all.ensures.ok in
+    c.in_ok-open_container.ensures.ok (omega (arith, c.len-begin.ensures)) c.in_ok-push_all.ensures.ok in
     let told = c.close_item-2.ensures base c.close_item.new.bytes.items [] Object 1 (item_of 0 key ∷ []) (omega (arith, c.len-start.ensures)) refl one
-        (omega (arith, c.len-end.ensures)) (sym (append-nil c.close_item.new.bytes.items)) in
+    (omega (arith, c.len-end.ensures)) (sym (append-nil c.close_item.new.bytes.items)) in
     MatchResult-weaker c.close_item-2.result told (λ _ k. key_alone key base c.close_item-2.new.bytes.items k) (λ _ _. tt)
 
 pub returns-clause-err : goal.returns-clause-err
@@ -47,7 +47,7 @@ returns-clause-err c =
     let base = c.args.bytes.now.items in
     let key = c.args.key.now in
     let one = c.in_ok-close_item.ensures base c.open_container.new.bytes.items key Object 1 [] (omega (arith, c.len-start.ensures)) refl
-        c.in_ok-open_container.ensures.ok (omega (arith, c.len-begin.ensures)) c.in_ok-push_all.ensures.ok in
+    c.in_ok-open_container.ensures.ok (omega (arith, c.len-begin.ensures)) c.in_ok-push_all.ensures.ok in
     let told = c.close_item-2.ensures base c.close_item.new.bytes.items [] Object 1 (item_of 0 key ∷ []) (omega (arith, c.len-start.ensures)) refl one
-        (omega (arith, c.len-end.ensures)) (sym (append-nil c.close_item.new.bytes.items)) in
+    (omega (arith, c.len-end.ensures)) (sym (append-nil c.close_item.new.bytes.items)) in
     MatchResult-weaker c.close_item-2.result told (λ _ _. tt) (λ e k. inr (k.0, omega (arith, k.1, length-append key [])))

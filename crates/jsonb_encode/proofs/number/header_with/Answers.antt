@@ -1,4 +1,4 @@
-use Rattle.std.proofs.Common.{◌≡◌, ℤ, pos, nat_abs, sym, ap, ◌∙◌, w32, to_z, of_z, rules}
+use Rattle.std.proofs.Common.{◌≡◌, ℤ, pos, nat_abs, sym, ap, ◌∙◌, w32, rules}
 use Rattle.std.specs.Prelude.{◌+ℤ◌}
 use mir.Val.{SFits}
 use Rattle.std.proofs.lemmas.Int.{to_z-of_z}

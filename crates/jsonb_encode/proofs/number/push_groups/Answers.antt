@@ -4,7 +4,6 @@ use Rattle.std.specs.Int.{w16, to_le_bytes}
 use Rattle.std.specs.List.{flat_map}
 use Rattle.std.proofs.lemmas.Grind.{flat_map-append}
 use Rattle.std.proofs.lemmas.Int.{to_z-of_z}
-use Rattle.std.proofs.lemmas.List.{append-nil}
 use Rattle.json_exact.specs.DecimalGroups.{group}
 use Rattle.jsonb_encode.specs.inner.Writing.{groups_down}
 use Rattle.jsonb_encode.proofs.number.push_groups.Goals as goal

@@ -1,9 +1,9 @@
-use Rattle.std.proofs.Common.{◌≡◌, ◌++◌, ◌<◌, ◌≤◌, ℕ, List, nat_abs, sym, subst, ap, ◌∙◌, arith, append_assoc}
+use Rattle.std.proofs.Common.{◌≡◌, ◌++◌, ◌≤◌, ℕ, List, nat_abs, subst, ap, ◌∙◌, arith, append_assoc}
 use Rattle.std.specs.Prelude.{IfOk}
 use Rattle.std.specs.Int.{w16, to_le_bytes}
 use Rattle.std.specs.List.{flat_map}
 use Rattle.jsonb_layout.specs.declared.header.Header.{Header}
-use Rattle.jsonb_encode.specs.Number.{numeric, header}
+use Rattle.jsonb_encode.specs.Number.{header}
 use Rattle.jsonb_encode.specs.inner.Writing.{groups_down, lead}
 use Rattle.jsonb_encode.proofs.Places.{run_length}
 use Rattle.jsonb_encode.proofs.Spans.{header_dscale, fits_short, whole_number}

@@ -4,7 +4,6 @@ use mir.Val.{SFits}
 use Rattle.std.proofs.lemmas.Int.{to_z-of_z}
 use Rattle.json_exact.specs.DecimalGroups.{group, IsGreatestPlace, IsLeastPlace}
 use Rattle.json_exact.specs.Exact.{IsWithinLimits}
-use Rattle.jsonb_encode.specs.Number.{groups, lift}
 use Rattle.jsonb_encode.specs.inner.Writing.{groups_down}
 use Rattle.jsonb_encode.proofs.Spans.{Some, some_of, zero_groups, zero_lift, is_none, is_some, some_lift}
 use Rattle.jsonb_encode.proofs.number.span_of.Goals as goal
@@ -39,7 +38,7 @@ places_between-requires c =
     let f : SFits w32 c.weight-first.result = search rules in
     let g : SFits w32 c.last_place-last.result = search rules in
     let k = known c.args.decimal.now c.weight-first.result c.last_place-last.result c.group.result f c.weight-first.ensures.zero
-        c.weight-first.ensures.greatest c.last_place-last.ensures.least c.is_integer-whole.ensures.limits c.group.ensures c.if-group-eq0.false in
+    c.weight-first.ensures.greatest c.last_place-last.ensures.least c.is_integer-whole.ensures.limits c.group.ensures c.if-group-eq0.false in
     record {
       low = subst (λ (p : ℤ). pos 0 ≤ℤ (p +ℤ pos 4096)) (sym (to_z-of_z w32 c.last_place-last.result g)) k.low;
       order = subst (λ (p : ℤ). p ≤ℤ to_z w32 (of_z w32 c.weight-first.result)) (sym (to_z-of_z w32 c.last_place-last.result g))
@@ -53,12 +52,12 @@ returns c =
     let g : SFits w32 c.last_place-last.result = search rules in
     let d = c.args.decimal.now in
     let k = known d c.weight-first.result c.last_place-last.result c.group.result f c.weight-first.ensures.zero
-        c.weight-first.ensures.greatest c.last_place-last.ensures.least c.is_integer-whole.ensures.limits c.group.ensures c.if-group-eq0.false in
+    c.weight-first.ensures.greatest c.last_place-last.ensures.least c.is_integer-whole.ensures.limits c.group.ensures c.if-group-eq0.false in
     let s = some d c.weight-first.result c.group.result f c.weight-first.ensures.zero c.group.ensures c.if-group-eq0.false in
     let a = to_z-of_z w32 c.weight-first.result f in
     let b = to_z-of_z w32 c.last_place-last.result g in
     let count : c.last_place-last.result +ℤ pos c.places_between.result ≡ c.weight-first.result +ℤ pos 1 =
-        ap (λ (p : ℤ). p +ℤ pos c.places_between.result) (sym b) ∙ c.places_between.ensures ∙ ap (λ (p : ℤ). p +ℤ pos 1) a in
+    ap (λ (p : ℤ). p +ℤ pos c.places_between.result) (sym b) ∙ c.places_between.ensures ∙ ap (λ (p : ℤ). p +ℤ pos 1) a in
     record {
       groups = λ w worth le. ap (λ (p : ℤ). groups_down p c.places_between.result (nat_abs d)) a ∙ k.all c.places_between.result w worth le count;
       lift = λ w worth le. ap (λ (p : ℤ). p +ℤ pos 32768) a

@@ -1,19 +1,18 @@
-use Rattle.std.proofs.Common.{◌≡◌, ◌*◌, ◌+◌, ◌-◌, ◌++◌, ◌∷◌, [], ◌<◌, ◌≤◌, List, ℕ, suc, length, map, take, drop, sym, subst, ap, ◌∙◌, arith, inl, inr, refl, rules}
+use Rattle.std.proofs.Common.{◌≡◌, ◌*◌, ◌+◌, ◌-◌, ◌++◌, ◌∷◌, [], ◌≤◌, List, ℕ, suc, length, map, take, drop, sym, subst, ap, ◌∙◌, arith, rules}
 use Rattle.std.specs.Prelude.{IsTrue, string_bytes}
 use Rattle.std.proofs.lemmas.List.{append-nil, length-append}
 use Rattle.json_model.specs.Nest.{nest, nest_elements, nest_members}
 use Rattle.json_model.specs.Parts.{elements_from, members_from}
-use Rattle.json_model.specs.Tree.{Tree, array, object, scalar, null, boolean, number, string}
+use Rattle.json_model.specs.Tree.{Tree, array, object}
 use Rattle.json_exact.specs.MapIteration.{left}
 use Rattle.json_exact.specs.Trees.{Pairs, tree, pairs}
 use Rattle.json_exact.specs.declared.value.Value.{Value}
 use Rattle.json_exact.proofs.NestLaws.{element_nests}
 use Rattle.json_exact.proofs.TreeLaws.{tree-array, tree-object}
 use Rattle.jsonb_layout.specs.Stands.{padding}
-use Rattle.jsonb_layout.specs.Layout.{pieces}
 use Rattle.jsonb_layout.specs.declared.form.Form.TheVariants.{Array, Object}
 use Rattle.jsonb_encode.specs.Encoded.{item}
-use Rattle.jsonb_encode.specs.Limits.{all_fit, elements_fit, members_fit}
+use Rattle.jsonb_encode.specs.Limits.{elements_fit}
 use Rattle.jsonb_encode.specs.declared.error.EncodeError.{EncodeError}
 use Rattle.jsonb_encode.specs.inner.Writing.{IsOpen, IsUnwritten, IsWritten, IsWhole, AreGood, kind_number, listed, pair_keys}
 use Rattle.jsonb_encode.proofs.Numbers.{wrote_number}
@@ -44,10 +43,13 @@ write_elements-write_value-requires t c =
     let split = split_at vs i v c.loop-i-test.true c.index-elements-i.is in
     let lt = c.loop-i-test.true in
     let place = place_is c.args.form [] us Array (length vs) (length vs) (c.len-start.result + 4 * length vs + 4) c.args.bytes.now.items c.loop-i.bytes.items
-        (omega (arith, taken_count vs i (omega arith))) c.loop-i.invariant.open_is (omega (arith, c.len-start.ensures)) in (
+    (omega (arith, taken_count vs i (omega arith))) c.loop-i.invariant.open_is (omega (arith, c.len-start.ensures)) in (
       omega (arith, inside, c.decreases),
-      (place.0, fits_inside c.args.form us (map tree (drop (suc i) vs)) (tree v)
-      (subst (λ (ts : List Tree). IsTrue (elements_fit c.args.form (elements_from ts))) split c.requires.fits)),
+      (
+        place.0,
+        fits_inside c.args.form us (map tree (drop (suc i) vs)) (tree v)
+            (subst (λ (ts : List Tree). IsTrue (elements_fit c.args.form (elements_from ts))) split c.requires.fits),
+      ),
     )
 
 pub write_elements-returns-in_err-kind-clause-err : goal.write_elements-returns-in_err-kind-clause-err
@@ -68,7 +70,7 @@ write_elements-close_item-requires-clause-begin t c =
     let us = map tree (take i vs) in
     let lt = c.loop-i-test.true in
     let place = place_is c.args.form [] us Array (length vs) (length vs) (c.len-start.result + 4 * length vs + 4) c.args.bytes.now.items c.loop-i.bytes.items
-        (omega (arith, taken_count vs i (omega arith))) c.loop-i.invariant.open_is (omega (arith, c.len-start.ensures)) in
+    (omega (arith, taken_count vs i (omega arith))) c.loop-i.invariant.open_is (omega (arith, c.len-start.ensures)) in
     omega (arith, place.0, c.len-begin.ensures)
 
 pub write_elements-returns-in_err-close_item-clause-err : goal.write_elements-returns-in_err-close_item-clause-err
@@ -88,7 +90,7 @@ write_elements-returns-in_err-close_item-clause-err t c =
     let place = place_is f [] us Array (length vs) (length vs) payload base mid (omega (arith, count)) c.loop-i.invariant.open_is (omega (arith, c.len-start.ensures)) in
     let w = c.in_ok-kind.ensures.ok in
     let told = c.in_err-close_item.ensures base mid (item f (tree v) (length mid - payload)).piece Array (length vs) (listed f [] us)
-        (omega (arith, c.len-start.ensures)) (listed_count f [] us ∙ (let z : 0 + length us ≡ i = omega (arith, count) in z)) c.loop-i.invariant.open_is (omega (arith, c.len-begin.ensures)) w.bytes in
+    (omega (arith, c.len-start.ensures)) (listed_count f [] us ∙ (let z : 0 + length us ≡ i = omega (arith, count) in z)) c.loop-i.invariant.open_is (omega (arith, c.len-begin.ensures)) w.bytes in
     err_as c.from_residual-in_err-close_item.result e (λ (x : EncodeError). IsUnwritten f (array (elements_from (map tree vs))) x) (search rules)
     (subst (λ (ts : List Tree). IsUnwritten f (array (elements_from ts)) e) (sym split)
     (elements_large f us (map tree (drop (suc i) vs)) (tree v) (length mid - payload) e place.1 told.0 told.1))
@@ -111,7 +113,7 @@ write_elements-loop-i-preserved t c =
     let place = place_is f [] us Array n n payload base mid (omega (arith, count)) c.loop-i.invariant.open_is (omega (arith, c.len-start.ensures)) in
     let w = c.in_ok-kind.ensures.ok in
     let told = c.in_ok-close_item.ensures base mid (item f (tree v) at).piece Array n (listed f [] us)
-        (omega (arith, c.len-start.ensures)) (listed_count f [] us ∙ (let z : 0 + length us ≡ i = omega (arith, count) in z)) c.loop-i.invariant.open_is (omega (arith, c.len-begin.ensures)) w.bytes in
+    (omega (arith, c.len-start.ensures)) (listed_count f [] us ∙ (let z : 0 + length us ≡ i = omega (arith, count) in z)) c.loop-i.invariant.open_is (omega (arith, c.len-begin.ensures)) w.bytes in
     let step = taken vs i v lt c.index-elements-i.is in
     record {
       open_is = subst (λ (ts : List Tree). IsOpen Array n n (listed f [] ts) base c.close_item.new.bytes.items) step
@@ -166,10 +168,13 @@ write_members-write_value-requires t c =
     let done = done_count inv.0 (left c.loop-value.value-iterator) (left c.next.new.self) ps p inv.1.parts steps in
     let split = pairs_split inv.0 (left c.loop-value.value-iterator) (left c.next.new.self) ps p inv.1.parts steps in
     let place = place_is f (pair_keys ps) us Object n (2 * n) (c.len-start.result + 8 * n + 4) c.args.bytes.now.items c.loop-value.bytes.items
-        (omega (arith, keys_count ps, pairs_count inv.0, c.len-count.ensures)) inv.1.open_is (omega (arith, c.len-start.ensures)) in (
+    (omega (arith, keys_count ps, pairs_count inv.0, c.len-count.ensures)) inv.1.open_is (omega (arith, c.len-start.ensures)) in (
       omega (arith, nests, inv.1.inside, c.decreases),
-      (place.0, fits_inside f us ws p.1 (subst (λ (ts : List Tree). IsTrue (elements_fit f (elements_from ts))) split
-      (subst IsTrue (members_fit_are f ps) c.requires.fits))),
+      (
+        place.0,
+        fits_inside f us ws p.1 (subst (λ (ts : List Tree). IsTrue (elements_fit f (elements_from ts))) split
+            (subst IsTrue (members_fit_are f ps) c.requires.fits)),
+      ),
     )
 
 pub write_members-returns-in_err-kind-clause-err : goal.write_members-returns-in_err-kind-clause-err
@@ -192,7 +197,7 @@ write_members-close_item-requires-clause-begin t c =
     let us = map {A = List ℕ × Tree} {B = Tree} (λ p. p.1) inv.0 in
     let done = done_count inv.0 (left c.loop-value.value-iterator) (left c.next.new.self) ps p inv.1.parts c.in-Some.ensures.steps in
     let place = place_is c.args.form (pair_keys ps) us Object n (2 * n) (c.len-start.result + 8 * n + 4) c.args.bytes.now.items c.loop-value.bytes.items
-        (omega (arith, keys_count ps, pairs_count inv.0, c.len-count.ensures)) inv.1.open_is (omega (arith, c.len-start.ensures)) in
+    (omega (arith, keys_count ps, pairs_count inv.0, c.len-count.ensures)) inv.1.open_is (omega (arith, c.len-start.ensures)) in
     omega (arith, place.0, c.len-begin.ensures)
 
 pub write_members-returns-in_err-close_item-clause-err : goal.write_members-returns-in_err-close_item-clause-err
@@ -211,12 +216,12 @@ write_members-returns-in_err-close_item-clause-err t c =
     let done = done_count inv.0 (left c.loop-value.value-iterator) (left c.next.new.self) ps p inv.1.parts steps in
     let split = pairs_split inv.0 (left c.loop-value.value-iterator) (left c.next.new.self) ps p inv.1.parts steps in
     let place = place_is f (pair_keys ps) us Object n (2 * n) payload base mid
-        (omega (arith, keys_count ps, pairs_count inv.0, c.len-count.ensures)) inv.1.open_is (omega (arith, c.len-start.ensures)) in
+    (omega (arith, keys_count ps, pairs_count inv.0, c.len-count.ensures)) inv.1.open_is (omega (arith, c.len-start.ensures)) in
     let w = c.in_ok-kind.ensures.ok in
     let index : length (listed f (pair_keys ps) us) ≡ c.loop-value.index =
-        omega (arith, listed_count f (pair_keys ps) us, keys_count ps, pairs_count inv.0, c.len-count.ensures, inv.1.index) in
+    omega (arith, listed_count f (pair_keys ps) us, keys_count ps, pairs_count inv.0, c.len-count.ensures, inv.1.index) in
     let told = c.in_err-close_item.ensures base mid (item f p.1 (length mid - payload)).piece Object n (listed f (pair_keys ps) us)
-        (omega (arith, c.len-start.ensures)) index inv.1.open_is (omega (arith, c.len-begin.ensures)) w.bytes in
+    (omega (arith, c.len-start.ensures)) index inv.1.open_is (omega (arith, c.len-begin.ensures)) w.bytes in
     err_as c.from_residual-in_err-close_item.result e (λ (x : EncodeError). IsUnwritten f (object (members_from ps)) x) (search rules)
     (members_large f ps us (map (λ p. p.1) (left c.next.new.self)) p.1 (length mid - payload) e split place.1 told.0 told.1)
 
@@ -237,12 +242,12 @@ write_members-loop-value-preserved t c =
     let nests = ap (λ (qs : Pairs). nest_members (members_from qs)) steps in
     let done = done_count inv.0 (left c.loop-value.value-iterator) (left c.next.new.self) ps p inv.1.parts steps in
     let place = place_is f (pair_keys ps) us Object n (2 * n) payload base mid
-        (omega (arith, keys_count ps, pairs_count inv.0, c.len-count.ensures)) inv.1.open_is (omega (arith, c.len-start.ensures)) in
+    (omega (arith, keys_count ps, pairs_count inv.0, c.len-count.ensures)) inv.1.open_is (omega (arith, c.len-start.ensures)) in
     let w = c.in_ok-kind.ensures.ok in
     let index : length (listed f (pair_keys ps) us) ≡ c.loop-value.index =
-        omega (arith, listed_count f (pair_keys ps) us, keys_count ps, pairs_count inv.0, c.len-count.ensures, inv.1.index) in
+    omega (arith, listed_count f (pair_keys ps) us, keys_count ps, pairs_count inv.0, c.len-count.ensures, inv.1.index) in
     let told = c.in_ok-close_item.ensures base mid (item f p.1 at).piece Object n (listed f (pair_keys ps) us)
-        (omega (arith, c.len-start.ensures)) index inv.1.open_is (omega (arith, c.len-begin.ensures)) w.bytes in
+    (omega (arith, c.len-start.ensures)) index inv.1.open_is (omega (arith, c.len-begin.ensures)) w.bytes in
     let more = sym (pairs_more inv.0 (p ∷ [])) in (
       inv.0 ++ p ∷ [],
       record {

@@ -1,4 +1,4 @@
-use Rattle.std.proofs.Common.{◌≡◌, ◌+◌, ◌*◌, ◌≤◌, ◌++◌, [], List, ℕ, length, map, take}
+use Rattle.std.proofs.Common.{◌≡◌, ◌+◌, ◌*◌, ◌≤◌, ◌++◌, [], length, map, take}
 use Rattle.json_model.specs.Nest.{nest, nest_elements, nest_members}
 use Rattle.json_model.specs.Parts.{elements_from, members_from}
 use Rattle.json_exact.specs.MapIteration.{left}

@@ -1,10 +1,10 @@
-use Rattle.std.proofs.Common.{◌≡◌, ◌*◌, ◌+◌, ◌++◌, ◌∷◌, [], ◌<◌, ◌≤◌, List, ℕ, length, map, sym, subst, ap, ◌∙◌, arith, inl, inr, refl, rules}
+use Rattle.std.proofs.Common.{◌≡◌, ◌*◌, ◌++◌, ◌∷◌, [], List, ℕ, sym, subst, ap, ◌∙◌, arith, inr, rules}
 use Rattle.std.proofs.lemmas.List.{append-nil, length-append}
 use Rattle.json_model.specs.Tree.{Tree}
 use Rattle.json_exact.specs.MapIteration.{left}
 use Rattle.json_exact.specs.Trees.{Pairs, tree, pairs}
 use Rattle.jsonb_layout.specs.declared.form.Form.TheVariants.{Object}
-use Rattle.jsonb_encode.specs.inner.Writing.{IsOpen, IsUnkeyed, Keyed, pair_keys}
+use Rattle.jsonb_encode.specs.inner.Writing.{IsOpen, IsUnkeyed, pair_keys}
 use Rattle.jsonb_encode.proofs.Opened.{open_length}
 use Rattle.jsonb_encode.proofs.Written.{err_as, keys_count, key_last, keys_long, pairs_next, done_count}
 use Rattle.jsonb_encode.proofs.writer.write_keys.Goals as goal
@@ -26,10 +26,13 @@ returns-in_err-close_item-clause-err c =
     let piece = c.as_bytes.result.now in
     let e = c.in_err-close_item.field-0.0 in
     let told = c.in_err-close_item.ensures c.args.bytes.now.items c.loop-name.bytes.items piece Object n (pair_keys inv.0)
-        (omega (arith, c.len-start.ensures)) (keys_count inv.0 ∙ sym inv.1.index) inv.1.open_is (omega (arith, c.len-begin.ensures)) c.in_ok-push_all.ensures.ok in
+    (omega (arith, c.len-start.ensures)) (keys_count inv.0 ∙ sym inv.1.index) inv.1.open_is (omega (arith, c.len-begin.ensures)) c.in_ok-push_all.ensures.ok in
     err_as c.from_residual-in_err-close_item.result e (λ x. IsUnkeyed (pairs c.args.members.now) x) (search rules)
-    (inr (told.0, inr (keys_long inv.0 (left c.next.new.self) (pairs c.args.members.now) p piece
-    (inv.1.parts ∙ ap (λ (qs : Pairs). inv.0 ++ qs) c.in-Some.ensures.steps) c.as_bytes.ensures.value told.1)))
+    (inr (
+      told.0,
+      inr (keys_long inv.0 (left c.next.new.self) (pairs c.args.members.now) p piece
+          (inv.1.parts ∙ ap (λ (qs : Pairs). inv.0 ++ qs) c.in-Some.ensures.steps) c.as_bytes.ensures.value told.1),
+    ))
 
 pub loop-name-preserved : goal.loop-name-preserved
 loop-name-preserved c =
@@ -38,7 +41,7 @@ loop-name-preserved c =
     let p : List ℕ × Tree = (c.in-Some.name.now, tree c.in-Some.field-0-1.now) in
     let piece = c.as_bytes.result.now in
     let next = c.in_ok-close_item.ensures c.args.bytes.now.items c.loop-name.bytes.items piece Object n (pair_keys inv.0)
-        (omega (arith, c.len-start.ensures)) (keys_count inv.0 ∙ sym inv.1.index) inv.1.open_is (omega (arith, c.len-begin.ensures)) c.in_ok-push_all.ensures.ok in (
+    (omega (arith, c.len-start.ensures)) (keys_count inv.0 ∙ sym inv.1.index) inv.1.open_is (omega (arith, c.len-begin.ensures)) c.in_ok-push_all.ensures.ok in (
       inv.0 ++ p ∷ [],
       record {
         parts = pairs_next inv.0 (left c.loop-name.name-iterator) (left c.next.new.self) (pairs c.args.members.now) p inv.1.parts c.in-Some.ensures.steps;

@@ -1,4 +1,4 @@
-use Rattle.std.proofs.Common.{◌≡◌, ◌*◌, ◌++◌, List, ℕ, length}
+use Rattle.std.proofs.Common.{◌≡◌, ◌*◌, ◌++◌, length}
 use Rattle.json_exact.specs.MapIteration.{left}
 use Rattle.json_exact.specs.Trees.{Pairs, pairs}
 use Rattle.jsonb_layout.specs.declared.form.Form.TheVariants.{Object}

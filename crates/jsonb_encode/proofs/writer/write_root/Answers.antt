@@ -1,7 +1,7 @@
-use Rattle.std.proofs.Common.{◌≡◌, List, ℕ, map, ap, subst, ◌∙◌, rules, Result}
+use Rattle.std.proofs.Common.{List, map, ap, subst, ◌∙◌}
 use Rattle.std.specs.Prelude.{IfOk, IfErr, string_bytes}
 use Rattle.json_model.specs.Parts.{elements_from, members_from}
-use Rattle.json_model.specs.Tree.{Tree, scalar, null, boolean, number, string, array, object}
+use Rattle.json_model.specs.Tree.{null, boolean, number, string, array}
 use Rattle.json_exact.specs.Trees.{tree, pairs}
 use Rattle.json_exact.specs.declared.value.Value.{Value}
 use Rattle.json_exact.proofs.TreeLaws.{tree-array, tree-object}

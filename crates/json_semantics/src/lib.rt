@@ -1,7 +1,7 @@
 //! JSON values in memory as nodes, JSON equality, and bounds of numbers.
 //!
 //! [`ValueNode`], [`ValueObject`] and [`ValueArray`] borrow a `json_exact::Value`, its members or its elements, and answer the
-//! calls of `json_traits`. [`cmp`] compares values, [`numeric`] compares numbers with a limit, and [`numeric_check`] keeps a
+//! calls of `json_traits`. [`cmp`] compares values, [`unique`] tells whether no two of many are equal, [`numeric`] compares numbers with a limit, and [`numeric_check`] keeps a
 //! bound that is tested many times. [`laws`] says what holds of JSON equality for trees whose keys rise at each level, and that
 //! every value's tree is one.
 //!
@@ -12,19 +12,21 @@
 //! numeric::ge(&number, Decimal::from_u64(3));              // false for 2.50
 //! let bound = compile_bound(BoundOp::Lte, &limit);         // at most 3
 //! check_bound(&bound, &number);                            // true for 2.50
+//! unique::is_unique(alloc, &[one, one_point_zero])?;       // false
 //! ```
 //!
 //! The values are those of RFC 8259, section 3. Equality is that of JSON Schema Core 2020-12, section 4.2.2: numbers are equal
 //! by value, arrays place by place, and objects whatever the order of their members. The bounds are those of JSON Schema
 //! Validation 2020-12, section 6.2.
 //!
-//! [`SerdeJson`] is the representation of JSON by such values: its `prepare_key` and `string_node` alone take memory. No call
+//! [`SerdeJson`] is the representation of JSON by such values: its `prepare_key` and `string_node`, and [`unique`], alone take memory. No call
 //! answers by rounding. A value is not equal to one of another type: `1` is not `"1"`, and `null` is not `false`.
 //! `BoundOp::from_u8` refuses every byte above 3.
 #![tactic(auto)]
 
 mod array;
 pub mod cmp;
+mod element;
 mod elements;
 pub mod laws;
 mod members;
@@ -35,6 +37,7 @@ mod object;
 mod serde_json;
 #[cfg(test)]
 mod tests;
+pub mod unique;
 
 pub use array::ValueArray;
 pub use elements::ValueElements;

@@ -22,3 +22,4 @@ pub mod LookupLaws
 pub mod SeatTrees
 pub mod SeatHolds
 pub mod PlaceLaws
+pub mod ElementLaws

@@ -22,3 +22,4 @@ pub mod SomeVerdict
 pub mod Steps
 pub mod Texts
 pub mod TypeLists
+pub mod UniqueLaws

@@ -17,10 +17,11 @@ use Rattle.json_semantics.proofs.EquivalenceLaws.{same_chain, same_turned, same_
 use Rattle.json_traits.specs.Allowed.{IsInteger, IsOfType}
 use Rattle.json_traits.specs.Kinds.{type_of}
 use Rattle.json_traits.specs.declared.types.json_type.JsonType.{JsonType}
+use Rattle.judge.proofs.UniqueLaws.{unique_on}
 use Rattle.judge.specs.Names.{keyword_of}
 use Rattle.judge.specs.Verdict.{Holds, HoldsAt, IsKeyOf, IsOneOf, IsUpTo, Reaches, Verdict, count_of}
 use Rattle.judge.specs.declared.keyword.Keyword.{Keyword}
-use Rattle.judge.specs.declared.keyword.Keyword.TheVariants.{«Type», Enum, Const, Bound, Least, Greatest, Required}
+use Rattle.judge.specs.declared.keyword.Keyword.TheVariants.{«Type», Enum, Const, Bound, Least, Greatest, UniqueItems, Required}
 use Rattle.judge.specs.declared.keyword.Measure.{Measure}
 use Rattle.judge.specs.declared.keyword.Measure.TheVariants as counted_as
 use Rattle.json_semantics.specs.Bounds.{Keeps}
@@ -237,6 +238,7 @@ module _ (d e : Tree) (f : KeysRise d) (g : KeysRise e) (s : Same d e) where
   holds_on (Bound op) v r h = bound_on (λ m x. Keeps op x m) (keeps_on op) v d e s h
   holds_on (Least measure) v r h = limit_on Reaches v (count_of measure d) (count_of measure e) (one_count measure d e s) h
   holds_on (Greatest measure) v r h = limit_on IsUpTo v (count_of measure d) (count_of measure e) (one_count measure d e s) h
+  holds_on UniqueItems v r h = λ asks. unique_on d e f g s (h asks)
   holds_on Required v r h = required_on v d e s h
 
   -- what d meets, e meets, in whatever order their members stand

@@ -32,6 +32,8 @@ pub(crate) enum Keyword {
     Least(Measure),
     /// A count is at most a limit: `maxLength` and its like.
     Greatest(Measure),
+    /// The elements of an array differ: `uniqueItems`.
+    UniqueItems,
     /// An object has each of these keys: `required`.
     Required,
 }
@@ -53,6 +55,7 @@ impl Keyword {
             "maxLength" => Some(Keyword::Greatest(Measure::CodePoints)),
             "minItems" => Some(Keyword::Least(Measure::Elements)),
             "maxItems" => Some(Keyword::Greatest(Measure::Elements)),
+            "uniqueItems" => Some(Keyword::UniqueItems),
             "minProperties" => Some(Keyword::Least(Measure::Members)),
             "maxProperties" => Some(Keyword::Greatest(Measure::Members)),
             "required" => Some(Keyword::Required),
@@ -65,7 +68,7 @@ impl Keyword {
         ensures { result ≡ list_any (bytes_eq name.now) to_come }
     {
         match name {
-            "uniqueItems" | "pattern" => true,
+            "pattern" => true,
             _ => false,
         }
     }

@@ -11,7 +11,7 @@
 //! keyword object is refused, and mostly where, is a [`KeywordError`]. Nodes of one tree get one verdict ([`laws::one_verdict`]).
 //!
 //! Built are `type`, `enum`, `const`, the four bounds of numbers, the least and greatest counts of code points, elements and
-//! members, and `required`. `uniqueItems` and `pattern` are known and not built yet: a keyword object that has one is refused as
+//! members, `uniqueItems`, and `required`. `pattern` is known and not built yet: a keyword object that has it is refused as
 //! [`KeywordError::Unbuilt`].
 //!
 //! [`run`] reads lines from a [`Source`], judges each, and writes one line of answer for each to a [`Sink`]. A line is

@@ -8,8 +8,10 @@ ghost use Rattle.json_semantics.specs.Trees.{array_tree};
 
 use crate::elements::ValueElements;
 use crate::node::ValueNode;
-use json_exact::Value;
+use crate::unique::is_unique;
+use json_exact::{OutOfMemory, Value};
 use json_traits::{Array, HasTree};
+use std::alloc::Global;
 
 /// A JSON array whose elements stand in memory.
 #[derive(Clone, Copy)]
@@ -41,5 +43,9 @@ impl<'a> Array<'a> for ValueArray<'a> {
 
     fn elements(&self) -> ValueElements<'a> {
         ValueElements::new(self.elements)
+    }
+
+    fn is_unique(&self, alloc: Global) -> Result<bool, OutOfMemory> {
+        is_unique(alloc, self.elements)
     }
 }

@@ -24,3 +24,4 @@ pub mod LookupLaws
 pub mod SeatTrees
 pub mod SeatHolds
 pub mod PlaceLaws
+pub mod ElementLaws

@@ -6,8 +6,10 @@ ghost use Rattle.jsonb.specs.inner.Views.{place};
 use crate::cursor::Cursor;
 use crate::items::Items;
 use crate::node::JsonbNode;
+use json_exact::OutOfMemory;
 use json_traits::{Array, HasTree};
 use jsonb_layout::Form;
+use std::alloc::Global;
 
 /// An array in a slice: its items. It borrows the slice.
 #[derive(Clone, Copy)]
@@ -79,5 +81,12 @@ impl<'a> Array<'a> for JsonbArray<'a> {
         Cursor {
             left: self.elements,
         }
+    }
+
+    /// Up to 15 elements are compared each with each; from 16 on an element is compared with those alone that have its number, so
+    /// elements that were chosen to share a number make it slow. It takes memory for the elements and their numbers, and for the
+    /// nesting of those that it looks at, and no stack.
+    fn is_unique(&self, alloc: Global) -> Result<bool, OutOfMemory> {
+        json_elements::is_unique::<JsonbNode>(alloc, self.elements())
     }
 }

@@ -35,6 +35,7 @@
 mod array;
 mod buffer;
 mod cursor;
+mod element;
 pub mod encode;
 mod error;
 mod found;
@@ -64,6 +65,7 @@ mod walk;
 pub use array::JsonbArray;
 pub use buffer::JsonbBuffer;
 pub use cursor::Cursor;
+pub use element::element_hash;
 pub use error::JsonbError;
 pub use key::JsonbKey;
 pub use members::JsonbMembers;

@@ -1,22 +1,23 @@
 -- What a compiled keyword adds to the checks.
-use Rattle.std.proofs.Common.{◌≡◌, Option, Some, None, Vec, Global, refl, ap, ◌∙◌}
+use Rattle.std.proofs.Common.{◌≡◌, Bool, false, true, Option, Some, None, Vec, Global, refl, sym, ap, ◌∙◌}
 use Rattle.std.specs.Prelude.{◌↔◌, IfSome, IsSome, IsSomeAnd}
+use Rattle.std.proofs.lemmas.Bool.{false≢true}
 use Rattle.json_exact.specs.declared.value.Value.{Value}
 use Rattle.json_model.specs.Decimal.{Decimal}
-use Rattle.json_model.specs.Parts.{as_number}
+use Rattle.json_model.specs.Parts.{as_boolean, as_number}
 use Rattle.json_model.specs.Tree.{Tree}
 use Rattle.json_semantics.specs.Bounds.{Keeps}
 use Rattle.json_semantics.specs.declared.numeric_check.BoundOp.{BoundOp}
 use Rattle.json_semantics.specs.declared.numeric_check.CompiledBound.{CompiledBound}
 use Rattle.jsonschema_regex.specs.declared.literal_pattern.LiteralPattern.{LiteralPattern}
 use Rattle.judge.proofs.NameLists.{if_both}
-use Rattle.judge.specs.inner.Passes.{Adds, AreListed, HasRoom, IsBoundOf, IsFree, IsLimitOf, IsPatternOf, IsWithin, KeepsAll, Meets, Passes, bound_at, limits_at}
+use Rattle.judge.specs.inner.Passes.{Adds, AreListed, HasRoom, IsBoundOf, IsFree, IsLimitOf, IsPatternOf, IsWithin, KeepsAll, Meets, NeedsNoMemory, Passes, bound_at, limits_at}
 use Rattle.judge.specs.Validity.{IsCount, Suits}
 use Rattle.judge.specs.Verdict.{Holds, IsUpTo, Reaches, count_of}
 use Rattle.judge.specs.declared.bounds.Bounds.{Bounds}
 use Rattle.judge.specs.declared.checks.Checks.{Checks}
 use Rattle.judge.specs.declared.keyword.Keyword.{Keyword}
-use Rattle.judge.specs.declared.keyword.Keyword.TheVariants.{«Type», Enum, Const, Bound, Least, Greatest, Pattern, Required}
+use Rattle.judge.specs.declared.keyword.Keyword.TheVariants.{«Type», Enum, Const, Bound, Least, Greatest, UniqueItems, Pattern, Required}
 use Rattle.judge.specs.declared.keyword.Measure.{Measure}
 use Rattle.judge.specs.declared.keyword.Measure.TheVariants.{CodePoints, Elements, Members}
 use Rattle.judge.specs.declared.limits.Limit.{Limit}
@@ -55,6 +56,7 @@ module _ (old : Checks) (v : Tree) where
           code_points = h.code_points;
           elements = h.elements;
           members = h.members;
+          unique = h.unique;
           pattern = h.pattern;
           required = h.required;
         },
@@ -68,11 +70,13 @@ module _ (old : Checks) (v : Tree) where
         code_points = h.0.code_points;
         elements = h.0.elements;
         members = h.0.members;
+        unique = h.0.unique;
         pattern = h.0.pattern;
         required = h.0.required;
       },
     );
     frees = others;
+    memory = λ never h. h;
   }
     where
       same : IsSome (as_number v) × (b.op ≡ op)
@@ -113,6 +117,7 @@ module _ (old : Checks) (v : Tree) where
       others (Bound o) other h = free o (λ e. other (ap (λ (p : BoundOp). let k : Keyword = Bound p in k) (e ∙ same.1))) ∙ h
       others (Least measure) other h = ap (λ (l : Limits). l.least) (same_limits measure) ∙ h
       others (Greatest measure) other h = ap (λ (l : Limits). l.greatest) (same_limits measure) ∙ h
+      others UniqueItems other h = h
       others Pattern other h = h
       others Required other h = h
 
@@ -131,6 +136,7 @@ module _ (old : Checks) (v : Tree) where
           code_points = h.code_points;
           elements = h.elements;
           members = h.members;
+          unique = h.unique;
           pattern = h.pattern;
           required = h.required;
         },
@@ -144,11 +150,13 @@ module _ (old : Checks) (v : Tree) where
         code_points = h.0.code_points;
         elements = h.0.elements;
         members = h.0.members;
+        unique = h.0.unique;
         pattern = h.0.pattern;
         required = h.0.required;
       },
     );
     frees = others;
+    memory = λ never h. h;
   }
     where
       same_limits : (measure : Measure) → limits_at measure (record old { listed = Some values }) ≡ limits_at measure old
@@ -163,6 +171,7 @@ module _ (old : Checks) (v : Tree) where
       others (Bound o) other h = h
       others (Least measure) other h = ap (λ (l : Limits). l.least) (same_limits measure) ∙ h
       others (Greatest measure) other h = ap (λ (l : Limits). l.greatest) (same_limits measure) ∙ h
+      others UniqueItems other h = h
       others Pattern other h = h
       others Required other h = h
 
@@ -181,6 +190,7 @@ module _ (old : Checks) (v : Tree) where
           code_points = h.code_points;
           elements = h.elements;
           members = h.members;
+          unique = h.unique;
           pattern = rw free tt;
           required = h.required;
         },
@@ -194,11 +204,13 @@ module _ (old : Checks) (v : Tree) where
         code_points = h.0.code_points;
         elements = h.0.elements;
         members = h.0.members;
+        unique = h.0.unique;
         pattern = (is d).1 h.1;
         required = h.0.required;
       },
     );
     frees = others;
+    memory = λ never h. h;
   }
     where
       same_limits : (measure : Measure) → limits_at measure (record old { pattern = Some a }) ≡ limits_at measure old
@@ -213,7 +225,68 @@ module _ (old : Checks) (v : Tree) where
       others (Bound o) other h = h
       others (Least measure) other h = ap (λ (l : Limits). l.least) (same_limits measure) ∙ h
       others (Greatest measure) other h = ap (λ (l : Limits). l.greatest) (same_limits measure) ∙ h
+      others UniqueItems other h = h
       others Pattern other h = absurd (other refl)
+      others Required other h = h
+
+  -- a truth value that was set for `uniqueItems`
+  pub adds_unique : (b : Bool) → IsFree UniqueItems old → as_boolean v ≡ Some b → Adds old UniqueItems v (record old { unique = b })
+  adds_unique b free is = record {
+    suits = record { form = rw is refl; pattern = λ h. h; literal = λ h. h; not_deep = λ h. h };
+    passes = λ d. (
+      λ h. (
+        record {
+          types = h.types;
+          listed = h.listed;
+          constant = h.constant;
+          bounds = h.bounds;
+          code_points = h.code_points;
+          elements = h.elements;
+          members = h.members;
+          unique = λ yes. absurd (false≢true (sym free ∙ yes));
+          pattern = h.pattern;
+          required = h.required;
+        },
+        λ asks. h.unique (one_truth is asks),
+      ),
+      λ h. record {
+        types = h.0.types;
+        listed = h.0.listed;
+        constant = h.0.constant;
+        bounds = h.0.bounds;
+        code_points = h.0.code_points;
+        elements = h.0.elements;
+        members = h.0.members;
+        unique = λ yes. h.1 (is ∙ ap (λ (x : Bool). let o : Option Bool = Some x in o) yes);
+        pattern = h.0.pattern;
+        required = h.0.required;
+      },
+    );
+    frees = others;
+    memory = λ never h. no_truth b is (λ asks. never (refl, asks));
+  }
+    where
+      one_truth : {o : Option Bool} {x : Bool} → o ≡ Some x → o ≡ Some true → x ≡ true
+      one_truth e f = cc
+
+      no_truth : (x : Bool) → as_boolean v ≡ Some x → (as_boolean v ≡ Some true → ⊥) → x ≡ false
+      no_truth true e never = absurd (never e)
+      no_truth false e never = refl
+
+      same_limits : (measure : Measure) → limits_at measure (record old { unique = b }) ≡ limits_at measure old
+      same_limits CodePoints = refl
+      same_limits Elements = refl
+      same_limits Members = refl
+
+      others : (u : Keyword) → (u ≡ UniqueItems → ⊥) → IsFree u old → IsFree u (record old { unique = b })
+      others «Type» other h = h
+      others Enum other h = h
+      others Const other h = h
+      others (Bound o) other h = h
+      others (Least measure) other h = ap (λ (l : Limits). l.least) (same_limits measure) ∙ h
+      others (Greatest measure) other h = ap (λ (l : Limits). l.greatest) (same_limits measure) ∙ h
+      others UniqueItems other h = absurd (other refl)
+      others Pattern other h = h
       others Required other h = h
 
   module _ (measure : Measure) (limit : Limit) (new : Checks) (is : IsSomeAnd (as_number v) (λ m. IsCount m × IsLimitOf limit m)) where
@@ -222,11 +295,13 @@ module _ (old : Checks) (v : Tree) where
 
     -- a least count that was set
     pub adds_least : ((d : Tree) → Passes new d ↔ (Passes old d × IfSome (count_of measure d) (Meets limit)))
-        → ((u : Keyword) → (u ≡ Least measure → ⊥) → IsFree u old → IsFree u new) → Adds old (Least measure) v new
-    adds_least passes frees = record {
+        → ((u : Keyword) → (u ≡ Least measure → ⊥) → IsFree u old → IsFree u new) → (NeedsNoMemory old → NeedsNoMemory new)
+        → Adds old (Least measure) v new
+    adds_least passes frees memory = record {
       suits = record { form = form; pattern = λ h. h; literal = λ h. h; not_deep = λ h. h };
       passes = λ d. (λ h. (let p = (passes d).0 h in (p.0, (holds d).0 p.1)), λ h. (passes d).1 (h.0, (holds d).1 h.1));
       frees = frees;
+      memory = λ never h. memory h;
     }
       where
         holds : (d : Tree) → IfSome (count_of measure d) (Meets limit) ↔ Holds (Least measure) v d
@@ -237,11 +312,13 @@ module _ (old : Checks) (v : Tree) where
 
     -- a greatest count that was set
     pub adds_greatest : ((d : Tree) → Passes new d ↔ (Passes old d × IfSome (count_of measure d) (HasRoom limit)))
-        → ((u : Keyword) → (u ≡ Greatest measure → ⊥) → IsFree u old → IsFree u new) → Adds old (Greatest measure) v new
-    adds_greatest passes frees = record {
+        → ((u : Keyword) → (u ≡ Greatest measure → ⊥) → IsFree u old → IsFree u new) → (NeedsNoMemory old → NeedsNoMemory new)
+        → Adds old (Greatest measure) v new
+    adds_greatest passes frees memory = record {
       suits = record { form = form; pattern = λ h. h; literal = λ h. h; not_deep = λ h. h };
       passes = λ d. (λ h. (let p = (passes d).0 h in (p.0, (holds d).0 p.1)), λ h. (passes d).1 (h.0, (holds d).1 h.1));
       frees = frees;
+      memory = λ never h. memory h;
     }
       where
         holds : (d : Tree) → IfSome (count_of measure d) (HasRoom limit) ↔ Holds (Greatest measure) v d

@@ -2,6 +2,7 @@
 use Rattle.std.proofs.Common.{◌≡◌, ◌≤◌, ℕ, List, Bool, Some, None, refl, sym, ap, subst, ◌∙◌, ◌⊎◌, inl, inr}
 use Rattle.std.specs.Prelude.{Result, Ok, Err, ◌↔◌, IsTrue}
 use Rattle.json_model.specs.Json.{IsJson}
+use Rattle.json_model.specs.Parts.{as_array}
 use Rattle.json_model.specs.Nest.{nest}
 use Rattle.json_model.specs.Tree.{Tree}
 use Rattle.jsonb_layout.proofs.Containers.{one_tree}
@@ -10,9 +11,9 @@ use Rattle.jsonb.specs.Root.{IsRead}
 use Rattle.jsonb.specs.declared.error.JsonbError.{JsonbError}
 use Rattle.jsonb.specs.declared.error.JsonbError.TheVariants as read
 use Rattle.judge.specs.Compiled.{IsCompiled, HasThisFault}
-use Rattle.judge.specs.inner.Passes.{Passes}
+use Rattle.judge.specs.inner.Passes.{NeedsNoMemory, Passes}
 use Rattle.judge.specs.Right.{Answer, Right, keywords_error, document_error, keyword_error}
-use Rattle.judge.specs.Validity.{IsLean, IsValid}
+use Rattle.judge.specs.Validity.{ChecksFreely, IsLean, IsValid, NeverAsksUnique}
 use Rattle.judge.specs.declared.checks.Checks.{Checks}
 use Rattle.judge.specs.declared.errors.JudgeError.{JudgeError}
 use Rattle.judge.specs.declared.errors.JudgeError.TheVariants as judged
@@ -95,3 +96,11 @@ module _ {X : Type 0} (k d : List ℕ) where
       verdict other u b (inl h) is = absurd cc
       verdict other u b (inr h) is =
           inr (Ok t, reads, (None, compiled.valid, (Ok u, h, (b, refl, (λ x. (compiled.passes u).0 (is.0 x), λ x. is.1 ((compiled.passes u).1 x))))))
+
+      -- where checking takes no memory, the checks need none
+      pub freely : (u : Tree) (v w : Tree) → Stands k u → Said {X = X} d (Ok node) (Ok w) → Stands d v → ChecksFreely u v
+          → NeedsNoMemory c ⊎ (as_array w ≡ None)
+      freely u v w stands (inl h) there free = absurd cc
+      freely u v w stands (inr read) there (inl never) =
+          inl (compiled.memory (subst (λ (x : Tree). NeverAsksUnique x) (sym (one_tree k t u reads.0 stands)) never))
+      freely u v w stands (inr read) there (inr none) = inr (ap as_array (one_tree d w v read.0 there) ∙ none)

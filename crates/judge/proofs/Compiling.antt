@@ -10,15 +10,15 @@ use Rattle.json_model.specs.Keys.{key_before, rises}
 use Rattle.json_traits.proofs.GivesLaws.{AtItem}
 use Rattle.judge.specs.Names.{keyword_of}
 use Rattle.judge.specs.Compiled.{IsFault, IsCompiled, HasThisFault}
-use Rattle.judge.specs.inner.Passes.{Passes, IsFree, Adds, Took, AddFault}
-use Rattle.judge.specs.Validity.{IsBad, IsBadPattern, IsCopied, IsFair, IsFirst, IsLean, IsNotLiteral, IsTooDeep, IsUnbuilt, IsUnknown, TakesMemory}
+use Rattle.judge.specs.inner.Passes.{Passes, IsFree, Adds, Took, AddFault, NeedsNoMemory}
+use Rattle.judge.specs.Validity.{IsBad, IsBadPattern, IsCopied, IsFair, IsFirst, IsLean, IsNotLiteral, IsTooDeep, IsUnbuilt, IsUnknown, TakesMemory, AsksUnique}
 use Rattle.judge.specs.Verdict.{Holds, HoldsAt}
 use Rattle.judge.specs.declared.checks.Checks.{Checks}
 use Rattle.judge.specs.declared.errors.KeywordError.{KeywordError}
 use Rattle.judge.specs.declared.errors.KeywordError.TheVariants.{NotAnObject, UnknownKeyword, BadKeyword, BadPattern, PatternNotLiteral, TooDeep, Unbuilt, OutOfMemory}
 use Rattle.judge.specs.declared.keyword.Keyword.{Keyword}
 use Rattle.judge.proofs.KeywordNames.{one_name}
-use Rattle.judge.specs.declared.keyword.Keyword.TheVariants.{«Type», Enum, Const, Bound, Least, Greatest, Pattern, Required}
+use Rattle.judge.specs.declared.keyword.Keyword.TheVariants.{«Type», Enum, Const, Bound, Least, Greatest, Pattern, Required, UniqueItems}
 use Rattle.json_model.proofs.KeyOrderLaws.{rises_all, rises_tail, not_before}
 
 abbrev pub Pair : Type 0
@@ -64,6 +64,7 @@ added old new w p e a = record {
   fair = rw e a.suits;
   passes = λ d. (λ h. let r = (a.passes d).0 h in (r.0, rw e r.1), λ h. (a.passes d).1 (h.0, hold d h.1));
   frees = λ u other free. a.frees u (λ same. other (e ∙ ap (λ (v : Keyword). let o : Option Keyword = Some v in o) (sym same))) free;
+  memory = λ never h. a.memory (λ asks. never (e ∙ ap (λ (v : Keyword). let o : Option Keyword = Some v in o) asks.0, asks.1)) h;
 }
   where
     hold : (d : Tree) → HoldsAt d p → Holds w p.1 d
@@ -106,6 +107,7 @@ list_alone (Bound op) v other h = absurd h
 list_alone (Least measure) v other h = absurd h
 list_alone (Greatest measure) v other h = absurd h
 list_alone Pattern v other h = absurd (other.1 refl)
+list_alone UniqueItems v other h = absurd h
 list_alone Required v other h = list_nests v h
 
 -- what holds of all holds at a place
@@ -121,15 +123,17 @@ pub record Walked (t : Tree) (checks : Checks) (k : ℕ) : Type 0 where
   pub fair : AllByRecursion IsFair (take k (pairs_of t))
   pub passes : (d : Tree) → Passes checks d ↔ AllByRecursion (HoldsAt d) (take k (pairs_of t))
   pub free : (w : Keyword) → AllByRecursion (λ (q : Pair). keyword_of q.0 ≡ Some w → ⊥) (take k (pairs_of t)) → IsFree w checks
+  pub memory : AllByRecursion (λ (q : Pair). AsksUnique q → ⊥) (take k (pairs_of t)) → NeedsNoMemory checks
 
 pub starts : (t : Tree) (checks : Checks) → IsSome (as_object t) → rises (map (λ (q : Pair). q.0) (pairs_of t)) ≡ true
-    → ((d : Tree) → Passes checks d) → ((w : Keyword) → IsFree w checks) → Walked t checks 0
-starts t checks is_object rise passes free = record {
+    → ((d : Tree) → Passes checks d) → ((w : Keyword) → IsFree w checks) → NeedsNoMemory checks → Walked t checks 0
+starts t checks is_object rise passes free memory = record {
   object = is_object;
   rise = rise;
   fair = tt;
   passes = λ d. (λ _. tt, λ _. passes d);
   free = λ w _. free w;
+  memory = λ _. memory;
 }
 
 module _ (t : Tree) (checks : Checks) (k : ℕ) (p : Pair) (at : AtItem (pairs_of t) k p) (s : Walked t checks k) where
@@ -147,6 +151,8 @@ module _ (t : Tree) (checks : Checks) (k : ℕ) (p : Pair) (at : AtItem (pairs_o
     );
     free = λ w. rw at.front (λ h. let q = all_front (λ (q : Pair). keyword_of q.0 ≡ Some w → ⊥) (take k (pairs_of t)) p h in
         took.frees w q.1 (s.free w q.0));
+    memory = rw at.front (λ h. let q = all_front (λ (q : Pair). AsksUnique q → ⊥) (take k (pairs_of t)) p h in
+        took.memory q.1 (s.memory q.0));
   }
 
   first_here : (P : Pair → Type 0) → P p → IsFirst t k P
@@ -201,4 +207,5 @@ ends t checks k le s =
     record {
       valid = record { object = s.object; fair = subst (λ (l : List Pair). AllByRecursion IsFair l) all s.fair };
       passes = λ d. subst (λ (l : List Pair). Passes checks d ↔ AllByRecursion (HoldsAt d) l) all (s.passes d);
+      memory = λ never. s.memory (subst (λ (l : List Pair). AllByRecursion (λ (q : Pair). AsksUnique q → ⊥) l) (sym all) never);
     }

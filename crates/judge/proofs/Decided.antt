@@ -43,6 +43,11 @@ decided_either (inl p) q = inl (inl p)
 decided_either (inr n) (inl q) = inl (inr q)
 decided_either (inr n) (inr m) = inr (λ h. elim h [ inl p ↦ n p | inr q ↦ m q ])
 
+pub decided_then : {P Q : Type 0} → Decided P → Decided Q → Decided (P → Q)
+decided_then (inl p) (inl q) = inl (λ _. q)
+decided_then (inl p) (inr n) = inr (λ h. n (h p))
+decided_then (inr n) q = inl (λ p. absurd (n p))
+
 pub decided_true : (b : Bool) → Decided (IsTrue b)
 decided_true true = inl refl
 decided_true false = inr (λ h. false≢true h)
@@ -161,4 +166,15 @@ decided_whole a = elim (eqb_tells (nat_abs a.digits) (nat_abs a.digits / 10 ^ a.
     sym (divided_times a.digits (nat_abs a.digits / 10 ^ a.places) (10 ^ a.places) (ten_pos a.places) hit.1),
   )
   | inr miss ↦ inr (λ h. miss.1 (quotient_is a.digits h.0 (10 ^ a.places) (ten_pos a.places) h.1))
+]
+
+-- ---- truth values
+
+pub same_truth_values : (o p : Option Bool) → Decided (o ≡ p)
+same_truth_values None None = inl refl
+same_truth_values None (Some b) = inr (λ e. cc)
+same_truth_values (Some a) None = inr (λ e. cc)
+same_truth_values (Some a) (Some b) = elim (same_truths a b) [
+  | inl i ↦ inl (ap (λ (x : Bool). let o : Option Bool = Some x in o) i)
+  | inr n ↦ inr (λ e. n (let i : a ≡ b = cc in i))
 ]

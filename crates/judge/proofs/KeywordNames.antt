@@ -8,7 +8,7 @@ use Rattle.judge.specs.Names.{keyword_of, keywords}
 use Rattle.judge.specs.declared.keyword.Measure.{Measure}
 use Rattle.judge.specs.declared.keyword.Measure.TheVariants.{CodePoints, Elements, Members}
 use Rattle.judge.specs.declared.keyword.Keyword.{Keyword}
-use Rattle.judge.specs.declared.keyword.Keyword.TheVariants.{«Type», Enum, Const, Bound, Least, Greatest, Pattern, Required}
+use Rattle.judge.specs.declared.keyword.Keyword.TheVariants.{«Type», Enum, Const, Bound, Least, Greatest, Pattern, Required, UniqueItems}
 
 abbrev measure_number : Measure → ℕ
 measure_number CodePoints = 0
@@ -22,6 +22,7 @@ number_of Required = 1
 number_of Enum = 2
 number_of Const = 3
 number_of Pattern = 4
+number_of UniqueItems = 5
 number_of (Bound op) = 10 + code_of op
 number_of (Least measure) = 20 + measure_number measure
 number_of (Greatest measure) = 30 + measure_number measure

@@ -25,3 +25,4 @@ pub mod Steps
 pub mod Texts
 pub mod TypeLists
 pub mod RequiredKeys
+pub mod UniqueLaws

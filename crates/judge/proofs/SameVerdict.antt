@@ -17,11 +17,12 @@ use Rattle.json_semantics.proofs.EquivalenceLaws.{same_chain, same_turned, same_
 use Rattle.json_traits.specs.Allowed.{IsInteger, IsOfType}
 use Rattle.json_traits.specs.Kinds.{type_of}
 use Rattle.json_traits.specs.declared.types.json_type.JsonType.{JsonType}
+use Rattle.judge.proofs.UniqueLaws.{unique_on}
 use Rattle.judge.specs.Names.{keyword_of}
 use Rattle.judge.specs.Patterns.{Finds}
 use Rattle.judge.specs.Verdict.{Holds, HoldsAt, IsKeyOf, IsOneOf, IsUpTo, Reaches, Verdict, count_of}
 use Rattle.judge.specs.declared.keyword.Keyword.{Keyword}
-use Rattle.judge.specs.declared.keyword.Keyword.TheVariants.{«Type», Enum, Const, Bound, Least, Greatest, Pattern, Required}
+use Rattle.judge.specs.declared.keyword.Keyword.TheVariants.{«Type», Enum, Const, Bound, Least, Greatest, Pattern, Required, UniqueItems}
 use Rattle.judge.specs.declared.keyword.Measure.{Measure}
 use Rattle.judge.specs.declared.keyword.Measure.TheVariants as counted_as
 use Rattle.json_semantics.specs.Bounds.{Keeps}
@@ -239,6 +240,7 @@ module _ (d e : Tree) (f : KeysRise d) (g : KeysRise e) (s : Same d e) where
   holds_on (Least measure) v r h = limit_on Reaches v (count_of measure d) (count_of measure e) (one_count measure d e s) h
   holds_on (Greatest measure) v r h = limit_on IsUpTo v (count_of measure d) (count_of measure e) (one_count measure d e s) h
   holds_on Pattern v r h = subst (λ (o : Option (List ℕ)). IfSome (as_string v) (λ p. IfSome o (Finds p))) (one_string d e s) h
+  holds_on UniqueItems v r h = λ asks. unique_on d e f g s (h asks)
   holds_on Required v r h = required_on v d e s h
 
   -- what d meets, e meets, in whatever order their members stand

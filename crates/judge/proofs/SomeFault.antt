@@ -3,7 +3,7 @@ use Rattle.std.proofs.Common.{◌≡◌, ◌⊎◌, inl, inr, ℕ, zero, suc, Li
 use Rattle.std.specs.Prelude.{IsSome, IsSomeAnd, bytes_eq, slice_get}
 use Rattle.std.specs.List.{AllByRecursion, list_any}
 use Rattle.json_model.specs.Decimal.{Decimal}
-use Rattle.json_model.specs.Parts.{as_array, as_number, as_object, as_string, elements_of, pairs_of}
+use Rattle.json_model.specs.Parts.{as_array, as_boolean, as_number, as_object, as_string, elements_of, pairs_of}
 use Rattle.json_model.specs.Nest.{nest}
 use Rattle.json_model.specs.Tree.{Tree, scalar, array, object}
 use Rattle.json_traits.specs.Names.{name_of}
@@ -14,7 +14,7 @@ use Rattle.judge.specs.Verdict.{IsNameOf}
 use Rattle.judge.specs.declared.errors.KeywordError.{KeywordError}
 use Rattle.judge.specs.declared.errors.KeywordError.TheVariants as keyword
 use Rattle.judge.specs.declared.keyword.Keyword.{Keyword}
-use Rattle.judge.specs.declared.keyword.Keyword.TheVariants.{«Type», Enum, Const, Bound, Least, Greatest, Pattern, Required}
+use Rattle.judge.specs.declared.keyword.Keyword.TheVariants.{«Type», Enum, Const, Bound, Least, Greatest, Pattern, Required, UniqueItems}
 use Rattle.judge.proofs.PatternFaults.{decided_engine, decided_no_pattern}
 use Rattle.judge.proofs.Decided.{Decided, decided_less, decided_all, decided_and, decided_below, decided_both, decided_either, decided_filled, decided_not, decided_some, decided_true, decided_type, decided_whole, same_texts}
 
@@ -56,6 +56,7 @@ decided_form (Bound op) v = decided_some (as_number v)
 decided_form (Least measure) v = decided_limit v
 decided_form (Greatest measure) v = decided_limit v
 decided_form Pattern v = decided_some (as_string v)
+decided_form UniqueItems v = decided_some (as_boolean v)
 decided_form Required v = decided_and AreNames decided_names (as_array v)
 
 decided_is_deep : (v : Tree) → Decided (IsDeep v)
@@ -73,6 +74,7 @@ decided_deep (Bound op) v = inr (λ h. h)
 decided_deep (Least measure) v = inr (λ h. h)
 decided_deep (Greatest measure) v = inr (λ h. h)
 decided_deep Pattern v = inr (λ h. h)
+decided_deep UniqueItems v = inr (λ h. h)
 decided_deep Required v = inr (λ h. h)
 
 -- ---- a member has no fault, or one of the six

@@ -1,9 +1,10 @@
 -- Each valid keyword object and each document have a verdict: whether a document meets a keyword is decided.
-use Rattle.std.proofs.Common.{inl, inr, ℕ, ◌^◌, List, [], ◌∷◌, Bool, Option, Some, None, pos}
+use Rattle.std.proofs.Common.{inl, inr, ℕ, ◌^◌, List, [], ◌∷◌, Bool, true, Option, Some, None, pos}
 use Rattle.std.specs.Prelude.{◌↔◌, ◌*ℤ◌, IfSome, IsTrue, IsSome, IsSomeAnd}
 use Rattle.std.specs.List.{AllByRecursion}
 use Rattle.json_model.specs.Decimal.{Decimal, IsBelow}
-use Rattle.json_model.specs.Parts.{as_number, as_object, as_string, elements_of, is_number, lookup, pairs_of}
+use Rattle.json_model.specs.Parts.{as_array, as_boolean, as_number, as_object, as_string, elements_of, is_number, lookup, pairs_of}
+use Rattle.json_model.specs.Same.{IsUnique}
 use Rattle.json_model.specs.Tree.{Tree}
 use Rattle.json_semantics.specs.Bounds.{IsAtMost, Keeps}
 use Rattle.json_semantics.specs.declared.numeric_check.BoundOp.{BoundOp}
@@ -18,11 +19,12 @@ use Rattle.judge.specs.Names.{keyword_of}
 use Rattle.judge.specs.Validity.{IsFair, IsValid, Suits}
 use Rattle.judge.specs.Verdict.{Holds, HoldsAt, IsAmong, IsKeyOf, IsNamed, IsOneOf, IsUpTo, Reaches, Verdict, count_of}
 use Rattle.judge.specs.declared.keyword.Keyword.{Keyword}
-use Rattle.judge.specs.declared.keyword.Keyword.TheVariants.{«Type», Enum, Const, Bound, Least, Greatest, Pattern, Required}
+use Rattle.judge.specs.declared.keyword.Keyword.TheVariants.{«Type», Enum, Const, Bound, Least, Greatest, Pattern, Required, UniqueItems}
 use Rattle.judge.proofs.PatternVerdicts.{decided_found}
 use Rattle.judge.proofs.BoundLaws.{at_most}
 use Rattle.judge.proofs.DecidedSame.{decided_same}
-use Rattle.judge.proofs.Decided.{Decided, decided_all, decided_below, decided_both, decided_either, decided_if, decided_not, decided_some, decided_true, decided_type, decided_whole, same_texts, same_type, truth_of}
+use Rattle.judge.proofs.UniqueLaws.{decided_unique}
+use Rattle.judge.proofs.Decided.{Decided, decided_all, decided_below, decided_both, decided_either, decided_if, decided_not, decided_some, decided_then, decided_true, decided_type, decided_whole, same_texts, same_truth_values, same_type, truth_of}
 
 -- ---- types
 
@@ -97,6 +99,8 @@ decided_holds Const v d suits = decided_same d v
 decided_holds (Bound op) v d suits = decided_bound (λ m x. Keeps op x m) (decided_keeps op) v d
 decided_holds (Least measure) v d suits = decided_limit Reaches decided_reaches v (count_of measure d)
 decided_holds (Greatest measure) v d suits = decided_limit IsUpTo decided_up_to v (count_of measure d)
+decided_holds UniqueItems v d suits =
+    decided_then (same_truth_values (as_boolean v) (Some true)) (decided_if IsUnique decided_unique (as_array d))
 decided_holds Pattern v d suits = decided_found (as_string v) (as_string d) suits.pattern suits.literal
 decided_holds Required v d suits =
     decided_if (λ ps. AllByRecursion (IsKeyOf ps) (elements_of v)) (λ ps. decided_all (IsKeyOf ps) (decided_key ps) (elements_of v)) (as_object d)

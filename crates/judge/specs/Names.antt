@@ -5,7 +5,7 @@ use Rattle.json_model.specs.Parts.{lookup}
 use Rattle.json_semantics.specs.declared.numeric_check.BoundOp.TheVariants.{Lt, Lte, Gt, Gte}
 use Rattle.judge.specs.declared.keyword.Measure.TheVariants.{CodePoints, Elements, Members}
 use Rattle.judge.specs.declared.keyword.Keyword.{Keyword}
-use Rattle.judge.specs.declared.keyword.Keyword.TheVariants.{«Type», Enum, Const, Bound, Least, Greatest, Pattern, Required}
+use Rattle.judge.specs.declared.keyword.Keyword.TheVariants.{«Type», Enum, Const, Bound, Least, Greatest, Pattern, Required, UniqueItems}
 
 abbrev pub keywords : List (List ℕ × Keyword)
 keywords =
@@ -20,6 +20,7 @@ keywords =
     (codes "maxLength", Greatest CodePoints) ∷
     (codes "minItems", Least Elements) ∷
     (codes "maxItems", Greatest Elements) ∷
+    (codes "uniqueItems", UniqueItems) ∷
     (codes "minProperties", Least Members) ∷
     (codes "maxProperties", Greatest Members) ∷
     (codes "pattern", Pattern) ∷
@@ -31,4 +32,4 @@ keyword_of name = lookup name keywords
 
 -- the names that are still to come
 abbrev pub to_come : List (List ℕ)
-to_come = codes "uniqueItems" ∷ []
+to_come = []

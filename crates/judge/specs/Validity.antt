@@ -1,10 +1,10 @@
 -- Which keyword objects are valid, and the first fault of one that is not: the forms of the JSON Schema 2020-12
 -- meta-schema. The order of the causes is this project's own, and so is that an unknown name, and a truth value in place of
 -- a keyword object, are refused.
-use Rattle.std.specs.Prelude.{ℕ, pos, ◌≡◌, ◌⊎◌, ◌<◌, List, [], ◌∷◌, Option, Some, None, ⊤, length, IsTrue, IsSome, IsSomeAnd, bytes_eq, slice_get, take}
+use Rattle.std.specs.Prelude.{ℕ, pos, ◌≡◌, ◌⊎◌, ◌<◌, List, [], ◌∷◌, Option, Some, None, true, ⊤, length, IsTrue, IsSome, IsSomeAnd, bytes_eq, slice_get, take}
 use Rattle.std.specs.List.{AllByRecursion, list_any}
 use Rattle.json_model.specs.Decimal.{Decimal, IsBelow, IsWhole}
-use Rattle.json_model.specs.Parts.{as_array, as_object, as_number, as_string, elements_of, pairs_of}
+use Rattle.json_model.specs.Parts.{as_array, as_boolean, as_object, as_number, as_string, elements_of, pairs_of}
 use Rattle.json_model.specs.Nest.{nest}
 use Rattle.json_model.specs.Tree.{Tree}
 use Rattle.json_traits.specs.Numbers.{whole}
@@ -15,7 +15,7 @@ use Rattle.judge.specs.Verdict.{IsNameOf}
 use Rattle.judge.specs.declared.errors.KeywordError.{KeywordError}
 use Rattle.judge.specs.declared.errors.KeywordError.TheVariants.{NotAnObject, UnknownKeyword, BadKeyword, BadPattern, PatternNotLiteral, TooDeep, Unbuilt, OutOfMemory}
 use Rattle.judge.specs.declared.keyword.Keyword.{Keyword}
-use Rattle.judge.specs.declared.keyword.Keyword.TheVariants.{«Type», Enum, Const, Bound, Least, Greatest, Pattern, Required}
+use Rattle.judge.specs.declared.keyword.Keyword.TheVariants.{«Type», Enum, Const, Bound, Least, Greatest, Pattern, Required, UniqueItems}
 
 -- a name of a type
 abbrev pub IsTypeName : Tree → Type 0
@@ -47,6 +47,7 @@ HasForm (Bound op) v = IsSome (as_number v)
 HasForm (Least measure) v = IsSomeAnd (as_number v) IsCount
 HasForm (Greatest measure) v = IsSomeAnd (as_number v) IsCount
 HasForm Pattern v = IsSome (as_string v)
+HasForm UniqueItems v = IsSome (as_boolean v)
 HasForm Required v = IsSomeAnd (as_array v) AreNames
 
 -- more than 128 containers stand in each other, the tree itself counted. This limit is this project's own.
@@ -67,6 +68,7 @@ KeepsDeep (Bound op) v = ⊥
 KeepsDeep (Least measure) v = ⊥
 KeepsDeep (Greatest measure) v = ⊥
 KeepsDeep Pattern v = ⊥
+KeepsDeep UniqueItems v = ⊥
 KeepsDeep Required v = ⊥
 
 -- the value of `pattern` is a string that is no pattern
@@ -125,6 +127,7 @@ TakesMemory (Bound op) v = ⊥
 TakesMemory (Least measure) v = ⊥
 TakesMemory (Greatest measure) v = ⊥
 TakesMemory Pattern v = IsSome (as_string v)
+TakesMemory UniqueItems v = ⊥
 TakesMemory Required v = IsSome (as_array v)
 
 -- reading the member's value takes memory
@@ -134,6 +137,18 @@ IsCopied p = IsSomeAnd (keyword_of p.0) (λ w. TakesMemory w p.1)
 -- no member is `const` or `pattern`, the keywords that take memory for a value that is no container
 abbrev pub IsLean : Tree → Type 0
 IsLean t = AllByRecursion (λ p. (keyword_of p.0 ≡ Some Const → ⊥) × (keyword_of p.0 ≡ Some Pattern → ⊥)) (pairs_of t)
+
+-- the member is `uniqueItems` with true, the one keyword for which checking a document takes memory
+abbrev pub AsksUnique : List ℕ × Tree → Type 0
+AsksUnique p = (keyword_of p.0 ≡ Some UniqueItems) × (as_boolean p.1 ≡ Some true)
+
+-- no member is
+abbrev pub NeverAsksUnique : Tree → Type 0
+NeverAsksUnique t = AllByRecursion (λ p. AsksUnique p → ⊥) (pairs_of t)
+
+-- checking the document d under t takes no memory
+abbrev pub ChecksFreely : Tree → Tree → Type 0
+ChecksFreely t d = NeverAsksUnique t ⊎ (as_array d ≡ None)
 
 -- member number m is P, and no member before it has a fault
 pub record IsFirst (t : Tree) (m : ℕ) (P : List ℕ × Tree → Type 0) : Type 0 where

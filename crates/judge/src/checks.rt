@@ -1,11 +1,12 @@
 //! Compiled keyword objects.
 
-ghost use Rattle.std.specs.Prelude.{ℕ, ◌≡◌, ◌↔◌, ◌⊎◌, ◌≤◌, IsTrue, IsOk, Some, Err, IfOk, IfErr, IfSome, OnOk, MatchResult};
+ghost use Rattle.std.specs.Prelude.{ℕ, ◌≡◌, ◌↔◌, ◌⊎◌, ◌≤◌, IsTrue, IsOk, Some, None, Err, IfOk, IfErr, IfSome, OnOk, MatchResult};
+ghost use Rattle.json_model.specs.Parts.{as_array};
 ghost use Rattle.json_model.specs.Nest.{nest};
 ghost use Rattle.json_model.specs.Tree.{Tree};
 ghost use Rattle.judge.specs.Names.{keyword_of};
 ghost use Rattle.judge.specs.Compiled.{HasThisFault, IsCompiled, IsCompiledMember, IsFault};
-ghost use Rattle.judge.specs.inner.Passes.{AddFault, Adds, HasRoom, IsFree, Meets, Passes, Took};
+ghost use Rattle.judge.specs.inner.Passes.{AddFault, Adds, HasRoom, IsFree, Meets, MeetsUnique, NeedsNoMemory, Passes, Took};
 ghost use Rattle.judge.specs.Verdict.{count_of};
 ghost use Rattle.judge.specs.Validity.{IsCopied, IsFirst, IsLean};
 ghost use Rattle.judge.specs.declared.keyword.Keyword.{Keyword};
@@ -15,10 +16,12 @@ use crate::errors::KeywordError;
 use crate::kept::{meets_constant, meets_listed, read_constant, read_listed};
 use crate::keyword::{Keyword, Measure};
 use crate::limits::{Limit, Limits};
-use crate::meets::{meets_bounds, meets_code_points, meets_elements, meets_members, meets_types};
+use crate::meets::{
+    meets_bounds, meets_code_points, meets_elements, meets_members, meets_types, meets_unique,
+};
 use crate::names::{meets_required, read_names};
 use crate::patterns::{meets_pattern, read_pattern};
-use crate::read::{read_bound, read_limit, read_types};
+use crate::read::{read_bound, read_limit, read_types, read_truth};
 use json_exact::{OutOfMemory, Value};
 use json_traits::types::JsonTypeSet;
 use json_traits::{Node, Object};
@@ -37,6 +40,7 @@ pub struct Checks {
     elements: Limits,
     members: Limits,
     pattern: Option<LiteralPattern>,
+    unique: bool,
     required: Option<Vec<String>>,
 }
 
@@ -45,6 +49,7 @@ impl Checks {
     fn empty() -> Checks
         ensures passes { (d : Tree) → Passes result d }
         ensures free { (w : Keyword) → IsFree w result }
+        ensures memory { NeedsNoMemory result }
     {
         Checks {
             types: None,
@@ -55,6 +60,7 @@ impl Checks {
             elements: Limits::NONE,
             members: Limits::NONE,
             pattern: None,
+            unique: false,
             required: None,
         }
     }
@@ -66,6 +72,7 @@ impl Checks {
             → Passes self.new d ↔ (Passes self.old d × IfSome (count_of measure d) (Meets limit)) }
         ensures frees { (u : Keyword) → (u ≡ Keyword.Least measure → ⊥)
             → IsFree u self.old → IsFree u self.new }
+        ensures memory { NeedsNoMemory self.old → NeedsNoMemory self.new }
     {
         match measure {
             Measure::CodePoints => self.code_points.least = Some(limit),
@@ -81,6 +88,7 @@ impl Checks {
             → Passes self.new d ↔ (Passes self.old d × IfSome (count_of measure d) (HasRoom limit)) }
         ensures frees { (u : Keyword) → (u ≡ Keyword.Greatest measure → ⊥)
             → IsFree u self.old → IsFree u self.new }
+        ensures memory { NeedsNoMemory self.old → NeedsNoMemory self.new }
     {
         match measure {
             Measure::CodePoints => self.code_points.greatest = Some(limit),
@@ -109,6 +117,7 @@ impl Checks {
             Keyword::Least(measure) => self.set_least(measure, read_limit(value, member)?),
             Keyword::Greatest(measure) => self.set_greatest(measure, read_limit(value, member)?),
             Keyword::Pattern => self.pattern = Some(read_pattern(alloc, value, member)?),
+            Keyword::UniqueItems => self.unique = read_truth(value, member)?,
             Keyword::Required => self.required = Some(read_names(alloc, value, member)?),
         }
         Ok(())
@@ -178,13 +187,13 @@ impl Checks {
         Ok(checks)
     }
 
-    /// Whether a document passes each check: where it is valid under the keyword object. It takes no memory, and never answers
-    /// want of it.
-    pub fn check<'a, N: Node<'a>>(&self, _alloc: Global, node: &N) -> Result<bool, OutOfMemory>
-        ensures ok { IsOk result }
-        ensures right { IfOk result (λ b. IsTrue b ↔ Passes self.now (N.tree node.now)) }
+    /// Whether a document passes each check but that of unique elements. It takes no memory.
+    fn passes_but_unique<'a, N: Node<'a>>(&self, node: &N) -> bool
+        ensures all { IsTrue result → MeetsUnique self.now.unique (N.tree node.now)
+            → Passes self.now (N.tree node.now) }
+        ensures some { Passes self.now (N.tree node.now) → IsTrue result }
     {
-        let passes = meets_types(self.types, node)
+        meets_types(self.types, node)
             && meets_listed(&self.listed, node)
             && meets_constant(&self.constant, node)
             && meets_bounds(&self.bounds, node)
@@ -192,7 +201,18 @@ impl Checks {
             && meets_elements(&self.elements, node)
             && meets_members(&self.members, node)
             && meets_pattern(&self.pattern, node)
-            && meets_required(&self.required, node);
-        Ok(passes)
+            && meets_required(&self.required, node)
+    }
+
+    /// Whether a document passes each check: where it is valid under the keyword object. Only unique elements take memory: want of it
+    /// comes only where `uniqueItems` is true and the document is an array.
+    pub fn check<'a, N: Node<'a>>(&self, alloc: Global, node: &N) -> Result<bool, OutOfMemory>
+        ensures ok { NeedsNoMemory self.now ⊎ (as_array (N.tree node.now) ≡ None) → IsOk result }
+        ensures right { IfOk result (λ b. IsTrue b ↔ Passes self.now (N.tree node.now)) }
+    {
+        if !self.passes_but_unique(node) {
+            return Ok(false);
+        }
+        meets_unique(self.unique, alloc, node)
     }
 }

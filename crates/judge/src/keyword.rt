@@ -34,6 +34,8 @@ pub(crate) enum Keyword {
     Greatest(Measure),
     /// A string is one in which a pattern matches: `pattern`.
     Pattern,
+    /// The elements of an array differ: `uniqueItems`.
+    UniqueItems,
     /// An object has each of these keys: `required`.
     Required,
 }
@@ -55,6 +57,7 @@ impl Keyword {
             "maxLength" => Some(Keyword::Greatest(Measure::CodePoints)),
             "minItems" => Some(Keyword::Least(Measure::Elements)),
             "maxItems" => Some(Keyword::Greatest(Measure::Elements)),
+            "uniqueItems" => Some(Keyword::UniqueItems),
             "minProperties" => Some(Keyword::Least(Measure::Members)),
             "maxProperties" => Some(Keyword::Greatest(Measure::Members)),
             "pattern" => Some(Keyword::Pattern),
@@ -68,7 +71,7 @@ impl Keyword {
         ensures { result ≡ list_any (bytes_eq name.now) to_come }
     {
         match name {
-            "uniqueItems" => true,
+            _ if false => true,
             _ => false,
         }
     }

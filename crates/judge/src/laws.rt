@@ -1,6 +1,6 @@
 //! Laws of the answers, for all slices and for all nodes. What a function here is for is its contract.
 
-ghost use Rattle.std.specs.Prelude.{◌≡◌, ◌↔◌, Bool, Result, IsTrue};
+ghost use Rattle.std.specs.Prelude.{◌≡◌, ◌↔◌, Bool, Result, IsTrue, IfOk};
 ghost use Rattle.judge.specs.inner.Passes.{Passes};
 ghost use Rattle.json_exact.specs.Trees.{tree};
 ghost use Rattle.json_model.specs.Same.{Same};
@@ -9,7 +9,7 @@ ghost use Rattle.judge.specs.Verdict.{Verdict};
 ghost use Rattle.judge.specs.declared.errors.KeywordError.{KeywordError};
 
 use crate::checks::Checks;
-use json_exact::Value;
+use json_exact::{OutOfMemory, Value};
 use json_semantics::ValueNode;
 use json_traits::Node;
 use json_traits::laws::keys_rise;
@@ -67,22 +67,19 @@ pub fn equal_documents_have_one_verdict<'a, K: Node<'a>, M: Node<'a>, N: Node<'a
     keys_rise(right);
 }
 
-/// The verdicts on two nodes, which are one where both stand for one tree, whatever holds them: a slice, or a value in memory.
+/// The verdicts on two nodes, which are one where both stand for one tree, whatever holds them: a slice, or a value in memory. Want of
+/// memory comes as of [`Checks::check`].
 pub fn one_verdict<'a, M: Node<'a>, N: Node<'a>>(
     alloc: Global,
     checks: &Checks,
     first: &M,
     second: &N,
-) -> (bool, bool)
-    ensures first { IsTrue result.0 ↔ Passes checks.now (M.tree first.now) }
-    ensures second { IsTrue result.1 ↔ Passes checks.now (N.tree second.now) }
-    ensures one { M.tree first.now ≡ N.tree second.now → result.0 ≡ result.1 }
+) -> Result<(bool, bool), OutOfMemory>
+    ensures first { IfOk result (λ v. IsTrue v.0 ↔ Passes checks.now (M.tree first.now)) }
+    ensures second { IfOk result (λ v. IsTrue v.1 ↔ Passes checks.now (N.tree second.now)) }
+    ensures one { M.tree first.now ≡ N.tree second.now → IfOk result (λ v. v.0 ≡ v.1) }
 {
-    let Ok(first) = checks.check(alloc, first) else {
-        unreachable!()
-    };
-    let Ok(second) = checks.check(alloc, second) else {
-        unreachable!()
-    };
-    (first, second)
+    let first = checks.check(alloc, first)?;
+    let second = checks.check(alloc, second)?;
+    Ok((first, second))
 }

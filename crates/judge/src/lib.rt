@@ -11,8 +11,8 @@
 //! keyword object is refused, and mostly where, is a [`KeywordError`]. Nodes of one tree get one verdict ([`laws::one_verdict`]).
 //!
 //! Built are `type`, `enum`, `const`, the four bounds of numbers, the least and greatest counts of code points, elements and
-//! members, `pattern` and `required`. `uniqueItems` is known and not built yet: a keyword object that has it is refused as
-//! [`KeywordError::Unbuilt`]. A `pattern` is taken where it is literal, as `^x-` and `^(a|b)$`: `jsonschema_regex` says which those are.
+//! members, `uniqueItems`, `pattern` and `required`: all sixteen. A `pattern` is taken where it is literal, as `^x-` and `^(a|b)$`:
+//! `jsonschema_regex` says which those are.
 //!
 //! [`run`] reads lines from a [`Source`], judges each, and writes one line of answer for each to a [`Sink`]. A line is
 //! two hex texts with one space between, the keywords and the document. For example the lines

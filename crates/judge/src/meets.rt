@@ -1,16 +1,18 @@
 //! What each check asks of a document.
 
-ghost use Rattle.std.specs.Prelude.{◌↔◌, IsTrue, IfSome};
-ghost use Rattle.json_model.specs.Parts.{as_number};
+ghost use Rattle.std.specs.Prelude.{◌≡◌, ◌↔◌, ◌⊎◌, false, None, IsOk, IsTrue, IfOk, IfSome};
+ghost use Rattle.json_model.specs.Parts.{as_array, as_number};
 ghost use Rattle.json_traits.specs.Allowed.{AllowsType};
-ghost use Rattle.judge.specs.inner.Passes.{IsBetween, KeepsAll};
+ghost use Rattle.judge.specs.inner.Passes.{IsBetween, KeepsAll, MeetsUnique};
 ghost use Rattle.judge.specs.Verdict.{count_of};
 ghost use Rattle.judge.specs.declared.keyword.Measure.TheVariants as measures;
 
 use crate::bounds::Bounds;
 use crate::limits::Limits;
+use json_exact::OutOfMemory;
 use json_traits::types::JsonTypeSet;
 use json_traits::{Array, JsonNumber, Node, Object};
+use std::alloc::Global;
 
 /// Whether a value is of a type of the set.
 pub(crate) fn meets_types<'a, N: Node<'a>>(types: Option<JsonTypeSet>, node: &N) -> bool
@@ -77,5 +79,25 @@ pub(crate) fn meets_members<'a, N: Node<'a>>(limits: &Limits, node: &N) -> bool
     match node.as_object() {
         Some(object) => limits.have(object.len() as u64),
         None => true,
+    }
+}
+
+/// Whether unique elements are not asked for, or a value is no array, or one of which no two elements are equal. It takes memory
+/// for an array alone, and only where they are asked for.
+#[tactic(auto, using(json_model::proofs::KindLaws::array_some, json_model::proofs::KindLaws::array_none, json_model::proofs::KindLaws::if_array_is))]
+pub(crate) fn meets_unique<'a, N: Node<'a>>(
+    unique: bool,
+    alloc: Global,
+    node: &N,
+) -> Result<bool, OutOfMemory>
+    ensures ok { (unique ≡ false) ⊎ (as_array (N.tree node.now) ≡ None) → IsOk result }
+    ensures right { IfOk result (λ b. IsTrue b ↔ MeetsUnique unique (N.tree node.now)) }
+{
+    if !unique {
+        return Ok(true);
+    }
+    match node.as_array() {
+        Some(array) => array.is_unique(alloc),
+        None => Ok(true),
     }
 }

@@ -1,7 +1,7 @@
 //! The values of keywords, read.
 
 ghost use Rattle.std.specs.Prelude.{◌≡◌, ◌↔◌, Some, IsSome, IsSomeAnd, MatchOption, MatchResult};
-ghost use Rattle.json_model.specs.Parts.{as_array, as_number};
+ghost use Rattle.json_model.specs.Parts.{as_array, as_boolean, as_number};
 ghost use Rattle.json_traits.specs.declared.types.json_type.JsonType.{JsonType};
 ghost use Rattle.judge.specs.inner.Passes.{IsBadForm, IsBoundOf, IsLimitOf, IsSetOf, IsSetOfList};
 ghost use Rattle.judge.specs.Validity.{AreTypeNames, HasForm, IsCount};
@@ -78,6 +78,18 @@ pub(crate) fn read_bound<'a, N: Node<'a>>(
 {
     match value.as_number() {
         Some(number) => Ok(compile_bound(op, &number.to_number())),
+        None => Err(KeywordError::BadKeyword { member }),
+    }
+}
+
+/// The truth value that the value of `uniqueItems` is.
+pub(crate) fn read_truth<'a, N: Node<'a>>(value: &N, member: usize) -> Result<bool, KeywordError>
+    ensures { MatchResult result
+        (λ truth. as_boolean (N.tree value.now) ≡ Some truth)
+        (IsBadForm member (IsSome (as_boolean (N.tree value.now)))) }
+{
+    match value.as_boolean() {
+        Some(truth) => Ok(truth),
         None => Err(KeywordError::BadKeyword { member }),
     }
 }

@@ -4,7 +4,7 @@ ghost use Rattle.std.specs.Prelude.{ℕ, ◌≡◌, ◌≤◌, ◌⊎◌, Err};
 ghost use Rattle.json_exact.specs.Trees.{tree};
 ghost use Rattle.json_model.specs.Nest.{nest};
 ghost use Rattle.judge.specs.Right.{RightOnTrees};
-ghost use Rattle.judge.specs.Validity.{IsCopied, IsFirst, IsLean};
+ghost use Rattle.judge.specs.Validity.{ChecksFreely, IsCopied, IsFirst, IsLean};
 
 use crate::checks::Checks;
 use crate::errors::KeywordError;
@@ -13,14 +13,15 @@ use json_semantics::ValueNode;
 use std::alloc::Global;
 
 /// Whether the document is valid under the keyword object, by JSON Schema 2020-12. It takes memory for the names that
-/// `required` lists, for the values of `enum` and `const`, and for a pattern, alone.
+/// `required` lists, for the values of `enum` and `const`, for a pattern, and for an array under `uniqueItems` with true, alone.
 pub fn judge_values(alloc: Global, keywords: &Value, document: &Value) -> Result<bool, KeywordError>
     ensures right { (result ≡ Err KeywordError.OutOfMemory)
         ⊎ RightOnTrees (tree keywords.now) (tree document.now) result }
     ensures memory { result ≡ Err KeywordError.OutOfMemory
-        → (m : ℕ) × IsFirst (tree keywords.now) m IsCopied }
+        → ((m : ℕ) × IsFirst (tree keywords.now) m IsCopied)
+        ⊎ (ChecksFreely (tree keywords.now) (tree document.now) → ⊥) }
     ensures free { nest (tree keywords.now) ≤ 1 → IsLean (tree keywords.now)
-        → result ≡ Err KeywordError.OutOfMemory → ⊥ }
+        → ChecksFreely (tree keywords.now) (tree document.now) → result ≡ Err KeywordError.OutOfMemory → ⊥ }
 {
     let checks = match Checks::compile(alloc, &ValueNode::new(keywords)) {
         Ok(checks) => checks,

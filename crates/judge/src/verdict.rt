@@ -6,7 +6,7 @@ ghost use Rattle.json_model.specs.Nest.{nest};
 ghost use Rattle.json_model.specs.Tree.{Tree};
 ghost use Rattle.jsonb_layout.specs.Stands.{Stands};
 ghost use Rattle.judge.specs.Right.{Right};
-ghost use Rattle.judge.specs.Validity.{IsLean, IsValid};
+ghost use Rattle.judge.specs.Validity.{ChecksFreely, IsLean, IsValid};
 
 use crate::checks::Checks;
 use crate::errors::JudgeError;
@@ -17,16 +17,16 @@ use std::alloc::Global;
 /// Whether the document is valid under the keyword object, both as PostgreSQL `jsonb` bytes, by JSON Schema 2020-12.
 ///
 /// The keywords are read whole, in place, and where they have no fault the document is too, whether a keyword looks at a part
-/// or not. Memory is taken for the nesting, for the names that `required` lists, for the values of `enum` and `const`, and for
-/// a pattern. Where no container of either stands inside another, and no member is `const` or `pattern`,
-/// want of memory is never answered, and neither
-/// where the keywords alone are so and are refused. Each name that `required` lists walks over the document's keys.
+/// or not. Memory is taken for the nesting, for the names that `required` lists, for the values of `enum` and `const`, for a pattern,
+/// and for an array under `uniqueItems` with true. Where no container of either stands inside another, no member is `const` or
+/// `pattern`, and no array is under `uniqueItems` with true, want of memory is never answered, and neither where the keywords alone
+/// are so and are refused.
 pub fn judge(alloc: Global, keywords: &[u8], document: &[u8]) -> Result<bool, JudgeError>
     ensures right { (result ≡ Err JudgeError.OutOfMemory) ⊎ Right keywords.now document.now result }
     ensures refused { (t : Tree) → Stands keywords.now t → nest t ≤ 1 → IsLean t
         → (IsJson t × IsValid t → ⊥) → result ≡ Err JudgeError.OutOfMemory → ⊥ }
     ensures free { (t u : Tree) → Stands keywords.now t → nest t ≤ 1 → IsLean t
-        → Stands document.now u → nest u ≤ 1 → result ≡ Err JudgeError.OutOfMemory → ⊥ }
+        → Stands document.now u → nest u ≤ 1 → ChecksFreely t u → result ≡ Err JudgeError.OutOfMemory → ⊥ }
 {
     let root = match Jsonb::root(alloc, keywords) {
         Ok(root) => root,

@@ -11,4 +11,6 @@ mod runs;
 #[cfg(test)]
 mod slow;
 #[cfg(test)]
+mod unique;
+#[cfg(test)]
 mod verdicts;

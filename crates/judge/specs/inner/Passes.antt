@@ -1,11 +1,11 @@
 -- Which documents pass compiled checks, and what a member that is taken in adds to them. The code's own words.
-use Rattle.std.specs.Prelude.{List, [], ◌∷◌, ◌++◌, ℕ, pos, ◌*◌, ◌≤◌, ◌<ℤ◌, ◌≡◌, ◌↔◌, IsTrue, IsSome, IsSomeAnd, map, String, string_bytes, Option, Some, None, IfSome, ⊤}
+use Rattle.std.specs.Prelude.{List, [], ◌∷◌, ◌++◌, ℕ, pos, ◌*◌, ◌≤◌, ◌<ℤ◌, ◌≡◌, ◌↔◌, IsTrue, IsSome, IsSomeAnd, map, String, string_bytes, Option, Some, None, IfSome, ⊤, Bool, false, true}
 use Rattle.json_exact.specs.Exact.{exactly, parts}
 use Rattle.json_exact.specs.Trees.{tree}
 use Rattle.json_exact.specs.declared.value.Value.{Value}
 use Rattle.json_model.specs.Decimal.{Decimal}
-use Rattle.json_model.specs.Parts.{as_array, as_number, as_object, as_string, elements_of, lookup, points}
-use Rattle.json_model.specs.Same.{Same}
+use Rattle.json_model.specs.Parts.{as_array, as_number, as_object, as_string, elements_of, lookup, points, as_boolean}
+use Rattle.json_model.specs.Same.{Same, IsUnique}
 use Rattle.json_model.specs.Tree.{Tree}
 use Rattle.json_semantics.specs.Bounds.{Keeps}
 use Rattle.json_semantics.specs.declared.numeric_check.BoundOp.{BoundOp}
@@ -22,7 +22,7 @@ use Rattle.jsonschema_regex.specs.declared.literal_pattern.LiteralPattern.{Liter
 use Rattle.pattern_model.specs.Literals.{Hits}
 use Rattle.judge.specs.Names.{keyword_of}
 use Rattle.judge.specs.Patterns.{IsPattern}
-use Rattle.judge.specs.Validity.{AreTypeNames, HasForm, IsFair, IsNoPattern, KeepsDeep, NeedsEngine, Suits, TakesMemory}
+use Rattle.judge.specs.Validity.{AreTypeNames, HasForm, IsFair, IsNoPattern, KeepsDeep, NeedsEngine, Suits, TakesMemory, AsksUnique}
 use Rattle.judge.specs.Verdict.{IsAmong, IsNamed, IsOneOf, Reaches, IsUpTo, count_of, Holds, HoldsAt}
 use Rattle.judge.specs.declared.checks.Checks.{Checks}
 use Rattle.judge.specs.declared.bounds.Bounds.{Bounds}
@@ -32,7 +32,7 @@ use Rattle.judge.specs.declared.limits.Limits.{Limits}
 use Rattle.judge.specs.declared.errors.KeywordError.{KeywordError}
 use Rattle.judge.specs.declared.errors.KeywordError.TheVariants.{NotAnObject, UnknownKeyword, BadKeyword, BadPattern, PatternNotLiteral, TooDeep, Unbuilt, OutOfMemory}
 use Rattle.judge.specs.declared.keyword.Keyword.{Keyword}
-use Rattle.judge.specs.declared.keyword.Keyword.TheVariants.{«Type», Enum, Const, Bound, Least, Greatest, Pattern, Required}
+use Rattle.judge.specs.declared.keyword.Keyword.TheVariants.{«Type», Enum, Const, Bound, Least, Greatest, Pattern, Required, UniqueItems}
 use Rattle.judge.specs.declared.keyword.Measure.{Measure}
 use Rattle.judge.specs.declared.keyword.Measure.TheVariants.{CodePoints, Elements, Members}
 
@@ -130,6 +130,14 @@ limits_at CodePoints c = c.code_points
 limits_at Elements c = c.elements
 limits_at Members c = c.members
 
+-- where unique elements are asked for, those of an array are
+abbrev pub MeetsUnique : Bool → Tree → Type 0
+MeetsUnique unique d = IsTrue unique → IfSome (as_array d) IsUnique
+
+-- unique elements are not asked for, so that no check takes memory
+abbrev pub NeedsNoMemory : Checks → Type 0
+NeedsNoMemory c = c.unique ≡ false
+
 -- the document passes every check
 pub record Passes (c : Checks) (d : Tree) : Type 0 where
   pub types : IfSome c.types (λ set. AllowsType set d)
@@ -140,6 +148,7 @@ pub record Passes (c : Checks) (d : Tree) : Type 0 where
   pub elements : IfSome (count_of Elements d) (IsBetween c.elements)
   pub members : IfSome (count_of Members d) (IsBetween c.members)
   pub pattern : IfSome c.pattern (IsHit d)
+  pub unique : MeetsUnique c.unique d
   pub required : IfSome c.required (λ names. IfSome (as_object d) (HasKeys names.items))
 
 -- nothing was compiled for the keyword yet
@@ -151,6 +160,7 @@ IsFree (Bound op) c = bound_at op c.bounds ≡ None
 IsFree (Least measure) c = (limits_at measure c).least ≡ None
 IsFree (Greatest measure) c = (limits_at measure c).greatest ≡ None
 IsFree Pattern c = c.pattern ≡ None
+IsFree UniqueItems c = c.unique ≡ false
 IsFree Required c = c.required ≡ None
 
 -- new checks what old checks, and what the keyword w with the value v asks
@@ -158,6 +168,7 @@ pub record Adds (old : Checks) (w : Keyword) (v : Tree) (new : Checks) : Type 0 
   pub suits : Suits w v
   pub passes : (d : Tree) → Passes new d ↔ (Passes old d × Holds w v d)
   pub frees : (u : Keyword) → (u ≡ w → ⊥) → IsFree u old → IsFree u new
+  pub memory : ((w ≡ UniqueItems) × (as_boolean v ≡ Some true) → ⊥) → NeedsNoMemory old → NeedsNoMemory new
 
 -- member number m is bad, since it has not the form F
 abbrev pub IsBadForm : ℕ → Type 0 → KeywordError → Type 0
@@ -179,3 +190,4 @@ pub record Took (old : Checks) (p : List ℕ × Tree) (new : Checks) : Type 0 wh
   pub fair : IsFair p
   pub passes : (d : Tree) → Passes new d ↔ (Passes old d × HoldsAt d p)
   pub frees : (u : Keyword) → (keyword_of p.0 ≡ Some u → ⊥) → IsFree u old → IsFree u new
+  pub memory : (AsksUnique p → ⊥) → NeedsNoMemory old → NeedsNoMemory new

@@ -1,4 +1,4 @@
-use Rattle.judge.proofs.Adding.{adds_bound, adds_greatest, adds_least, adds_listed, adds_pattern}
+use Rattle.judge.proofs.Adding.{adds_bound, adds_greatest, adds_least, adds_listed, adds_pattern, adds_unique}
 use Rattle.judge.proofs.PatternVerdicts.{pattern_is, pattern_suits}
 use Rattle.judge.proofs.checks.Checks.add.Goals as goal
 
@@ -18,13 +18,13 @@ pub returns-in_ok-read_limit-in-Least-clause-ok : goal.returns-in_ok-read_limit-
 returns-in_ok-read_limit-in-Least-clause-ok g c =
     rw c.in-Least.is (adds_least c.args.self.now (g.N.HasTree.tree c.args.value.now) c.in-Least.measure
     c.in_ok-read_limit-in-Least.field-0 c.set_least.new.self
-    c.in_ok-read_limit-in-Least.ensures c.set_least.ensures.passes c.set_least.ensures.frees)
+    c.in_ok-read_limit-in-Least.ensures c.set_least.ensures.passes c.set_least.ensures.frees c.set_least.ensures.memory)
 
 pub returns-in_ok-read_limit-in-Greatest-clause-ok : goal.returns-in_ok-read_limit-in-Greatest-clause-ok
 returns-in_ok-read_limit-in-Greatest-clause-ok g c =
     rw c.in-Greatest.is (adds_greatest c.args.self.now (g.N.HasTree.tree c.args.value.now) c.in-Greatest.measure
     c.in_ok-read_limit-in-Greatest.field-0 c.set_greatest.new.self
-    c.in_ok-read_limit-in-Greatest.ensures c.set_greatest.ensures.passes c.set_greatest.ensures.frees)
+    c.in_ok-read_limit-in-Greatest.ensures c.set_greatest.ensures.passes c.set_greatest.ensures.frees c.set_greatest.ensures.memory)
 
 pub returns-in_ok-read_pattern-in-Pattern-clause-ok : goal.returns-in_ok-read_pattern-in-Pattern-clause-ok
 returns-in_ok-read_pattern-in-Pattern-clause-ok g c =
@@ -33,3 +33,9 @@ returns-in_ok-read_pattern-in-Pattern-clause-ok g c =
     let is = c.in_ok-read_pattern-in-Pattern.ensures in
     let free = rw c.in-Pattern.is at c.requires in
     rw c.in-Pattern.is (adds_pattern c.args.self.now v kept free (pattern_suits v kept is) (pattern_is v kept is))
+
+pub returns-in_ok-read_truth-in-UniqueItems-clause-ok : goal.returns-in_ok-read_truth-in-UniqueItems-clause-ok
+returns-in_ok-read_truth-in-UniqueItems-clause-ok g c =
+    let free = rw c.in-UniqueItems.is at c.requires in
+    rw c.in-UniqueItems.is (adds_unique c.args.self.now (g.N.HasTree.tree c.args.value.now) c.in_ok-read_truth-in-UniqueItems.field-0 free
+    c.in_ok-read_truth-in-UniqueItems.ensures)

@@ -16,7 +16,7 @@ loop-name-init g c =
       place = refl;
       counted = c.len-count.ensures ∙ ap (λ u. length (pairs_of u)) same;
       walked = starts t c.empty-checks.result (rw (object_some t c.in-Some.ensures) refl)
-          (rw (← same) c.members-name-items.ensures.rise) c.empty-checks.ensures.passes c.empty-checks.ensures.free;
+          (rw (← same) c.members-name-items.ensures.rise) c.empty-checks.ensures.passes c.empty-checks.ensures.free c.empty-checks.ensures.memory;
     }
 
 pub take_member-requires : goal.take_member-requires

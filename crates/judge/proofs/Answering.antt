@@ -61,7 +61,6 @@ module _ {X : Type 0} (k d : List ℕ) where
     memory_alone (keyword.BadPattern m) h = absurd cc
     memory_alone (keyword.PatternNotLiteral m) h = absurd cc
     memory_alone (keyword.TooDeep m) h = absurd cc
-    memory_alone keyword.Unbuilt h = absurd cc
     memory_alone keyword.OutOfMemory h = refl
 
     -- where the keywords are refused and nest at most one level, without `const` and `pattern`, it is not for want of memory

@@ -11,11 +11,11 @@ use Rattle.json_traits.proofs.GivesLaws.{AtItem}
 use Rattle.judge.specs.Names.{keyword_of}
 use Rattle.judge.specs.Compiled.{IsFault, IsCompiled, HasThisFault}
 use Rattle.judge.specs.inner.Passes.{Passes, IsFree, Adds, Took, AddFault, NeedsNoMemory}
-use Rattle.judge.specs.Validity.{IsBad, IsBadPattern, IsCopied, IsFair, IsFirst, IsLean, IsNotLiteral, IsTooDeep, IsUnbuilt, IsUnknown, TakesMemory, AsksUnique}
+use Rattle.judge.specs.Validity.{IsBad, IsBadPattern, IsCopied, IsFair, IsFirst, IsLean, IsNotLiteral, IsTooDeep, IsUnknown, TakesMemory, AsksUnique}
 use Rattle.judge.specs.Verdict.{Holds, HoldsAt}
 use Rattle.judge.specs.declared.checks.Checks.{Checks}
 use Rattle.judge.specs.declared.errors.KeywordError.{KeywordError}
-use Rattle.judge.specs.declared.errors.KeywordError.TheVariants.{NotAnObject, UnknownKeyword, BadKeyword, BadPattern, PatternNotLiteral, TooDeep, Unbuilt, OutOfMemory}
+use Rattle.judge.specs.declared.errors.KeywordError.TheVariants.{NotAnObject, UnknownKeyword, BadKeyword, BadPattern, PatternNotLiteral, TooDeep, OutOfMemory}
 use Rattle.judge.specs.declared.keyword.Keyword.{Keyword}
 use Rattle.judge.proofs.KeywordNames.{one_name}
 use Rattle.judge.specs.declared.keyword.Keyword.TheVariants.{«Type», Enum, Const, Bound, Least, Greatest, Pattern, Required, UniqueItems}
@@ -77,7 +77,6 @@ refused m w p (BadKeyword n) is f = (f.0, rw is f.1)
 refused m w p (BadPattern n) is f = (f.0, rw is f.1)
 refused m w p (PatternNotLiteral n) is f = (f.0, rw is f.1)
 refused m w p (TooDeep n) is f = (f.0, rw is (f.1, f.2))
-refused m w p Unbuilt is f = absurd f
 refused m w p OutOfMemory is f = rw is f
 
 -- ---- all members
@@ -165,7 +164,6 @@ module _ (t : Tree) (checks : Checks) (k : ℕ) (p : Pair) (at : AtItem (pairs_o
   stops m (BadPattern n) is f = inr (subst (λ (i : ℕ). IsFirst t i IsBadPattern) (sym (f.0 ∙ is)) (first_here IsBadPattern f.1))
   stops m (PatternNotLiteral n) is f = inr (subst (λ (i : ℕ). IsFirst t i IsNotLiteral) (sym (f.0 ∙ is)) (first_here IsNotLiteral f.1))
   stops m (TooDeep n) is f = inr (subst (λ (i : ℕ). IsFirst t i IsTooDeep) (sym (f.0 ∙ is)) (first_here IsTooDeep f.1))
-  stops m Unbuilt is f = inr (k, first_here IsUnbuilt f)
   stops m OutOfMemory is f = inl refl
 
   -- memory is wanting only where a value is copied, and no member before has a fault
@@ -177,7 +175,6 @@ module _ (t : Tree) (checks : Checks) (k : ℕ) (p : Pair) (at : AtItem (pairs_o
   stops_at_copied m (BadPattern n) f h = absurd cc
   stops_at_copied m (PatternNotLiteral n) f h = absurd cc
   stops_at_copied m (TooDeep n) f h = absurd cc
-  stops_at_copied m Unbuilt f h = absurd cc
   stops_at_copied m OutOfMemory f h = (k, first_here IsCopied f)
 
   -- so it never is where no value is a container, and none is that of `const` or `pattern`
@@ -189,7 +186,6 @@ module _ (t : Tree) (checks : Checks) (k : ℕ) (p : Pair) (at : AtItem (pairs_o
   stops_with_memory m (BadPattern n) f le lean h = cc
   stops_with_memory m (PatternNotLiteral n) f le lean h = cc
   stops_with_memory m (TooDeep n) f le lean h = cc
-  stops_with_memory m Unbuilt f le lean h = cc
   stops_with_memory m OutOfMemory f le lean h = go (keyword_of p.0) refl f
     where
       go : (o : Option Keyword) → keyword_of p.0 ≡ o → IsSomeAnd o (λ w. TakesMemory w p.1) → ⊥

@@ -11,7 +11,7 @@ use Rattle.judge.specs.Answers.{IsJudged, IsPair, LineAnswer, fault_name, name_o
 use Rattle.judge.specs.Lines.{Lacks}
 use Rattle.judge.specs.Right.{Answer, Right, RightFrom, RightOf, RightWith}
 use Rattle.judge.specs.Validity.{HasFault}
-use Rattle.judge.specs.declared.errors.JudgeError.TheVariants.{Keywords, NotAnObject, UnknownKeyword, BadKeyword, BadPattern, PatternNotLiteral, TooDeep, Document, Unbuilt, OutOfMemory}
+use Rattle.judge.specs.declared.errors.JudgeError.TheVariants.{Keywords, NotAnObject, UnknownKeyword, BadKeyword, BadPattern, PatternNotLiteral, TooDeep, Document, OutOfMemory}
 use Rattle.judge.specs.declared.errors.KeywordError.{KeywordError}
 use Rattle.judge.specs.declared.errors.KeywordError.TheVariants as keyword
 use Rattle.judge.proofs.OneAnswer.{one_answer}
@@ -71,7 +71,6 @@ memory_with t (Some (keyword.BadKeyword m)) d h is = cc
 memory_with t (Some (keyword.BadPattern m)) d h is = cc
 memory_with t (Some (keyword.PatternNotLiteral m)) d h is = cc
 memory_with t (Some (keyword.TooDeep m)) d h is = cc
-memory_with t (Some keyword.Unbuilt) d h is = cc
 memory_with t (Some keyword.OutOfMemory) d h is = h
 memory_with t None d h is = memory_of t is.0 d is.1 is.2
 
@@ -98,7 +97,6 @@ named k d (Err (BadPattern member)) h = (codes "BadPattern", refl)
 named k d (Err (PatternNotLiteral member)) h = (codes "PatternNotLiteral", refl)
 named k d (Err (TooDeep member)) h = (codes "TooDeep", refl)
 named k d (Err (Document fault)) h = (codes "Document(" ++ fault_name fault ++ codes ")", refl)
-named k d (Err Unbuilt) h = (codes "Unbuilt", refl)
 named k d (Err OutOfMemory) h = absurd (never_memory k d h)
 
 pub is_named : (k d : List ℕ) (r : Answer) → Right k d r → IsSome (name_of r)

@@ -6,9 +6,9 @@ use Rattle.json_model.specs.Tree.{Tree}
 use Rattle.json_model.specs.Parts.{as_object, pairs_of}
 use Rattle.jsonb.specs.declared.error.JsonbError.{JsonbError}
 use Rattle.jsonb.proofs.OneRead.{one_read}
-use Rattle.judge.specs.Names.{keyword_of, to_come}
+use Rattle.judge.specs.Names.{keyword_of}
 use Rattle.judge.specs.Verdict.{Verdict}
-use Rattle.judge.specs.Validity.{HasFault, HasForm, IsBad, IsBadPattern, IsFair, IsFirst, IsNoPattern, IsNotLiteral, IsToCome, IsTooDeep, IsUnbuilt, IsUnknown, KeepsDeep, NeedsEngine, Suits}
+use Rattle.judge.specs.Validity.{HasFault, HasForm, IsBad, IsBadPattern, IsFair, IsFirst, IsNoPattern, IsNotLiteral, IsTooDeep, IsUnknown, KeepsDeep, NeedsEngine, Suits}
 use Rattle.judge.specs.declared.errors.KeywordError.{KeywordError}
 use Rattle.judge.specs.declared.errors.KeywordError.TheVariants as keyword
 use Rattle.judge.specs.declared.keyword.Keyword.{Keyword}
@@ -50,42 +50,25 @@ by_value (inr no_form) n e d m = Some (keyword.BadKeyword m)
 abbrev of_value : Keyword → Tree → ℕ → Fault
 of_value w v m = by_value (decided_form w v) (decided_no_pattern w v) (decided_engine w v) (decided_deep w v) m
 
--- by its keyword, and whether its name is still to come
-abbrev by_name : {P : Type 0} → Option Keyword → Tree → Decided P → ℕ → Fault
-by_name None v (inl coming) m = Some keyword.Unbuilt
-by_name None v (inr unknown) m = Some (keyword.UnknownKeyword m)
-by_name (Some w) v d m = of_value w v m
-
-abbrev is_coming : (p : Pair) → Decided (IsToCome p.0)
-is_coming p = decided_true (list_any (bytes_eq p.0) to_come)
+-- by its keyword
+abbrev by_name : Option Keyword → Tree → ℕ → Fault
+by_name None v m = Some (keyword.UnknownKeyword m)
+by_name (Some w) v m = of_value w v m
 
 abbrev cause : Pair → ℕ → Fault
-cause p m = by_name (keyword_of p.0) p.1 (is_coming p) m
+cause p m = by_name (keyword_of p.0) p.1 m
 
 unknown_is : (m : ℕ) (p : Pair) → IsUnknown p → cause p m ≡ fault (keyword.UnknownKeyword m)
-unknown_is m p h = go (keyword_of p.0) (is_coming p) h.0 h.1
-  where
-    go : {P : Type 0} (o : Option Keyword) (d : Decided P) → o ≡ None → (P → ⊥) → by_name o p.1 d m ≡ fault (keyword.UnknownKeyword m)
-    go None (inl h) e n = absurd (n h)
-    go None (inr h) e n = refl
-    go (Some w) d e n = absurd cc
+unknown_is m p h = ap (λ (o : Option Keyword). by_name o p.1 m) h
 
-unbuilt_is : (m : ℕ) (p : Pair) → IsUnbuilt p → cause p m ≡ fault keyword.Unbuilt
-unbuilt_is m p h = go (keyword_of p.0) (is_coming p) h.0 h.1
-  where
-    go : {P : Type 0} (o : Option Keyword) (d : Decided P) → o ≡ None → P → by_name o p.1 d m ≡ fault keyword.Unbuilt
-    go None (inl h) e c = refl
-    go None (inr h) e c = absurd (h c)
-    go (Some w) d e c = absurd cc
-
--- what is known of a keyword that is built, and what its value gives
-named_is : {P : Type 0} (Q : Keyword → Type 0) (v : Tree) (m : ℕ) (f : Fault) (o : Option Keyword) (d : Decided P) → IsSomeAnd o Q
-    → ((w : Keyword) → Q w → of_value w v m ≡ f) → by_name o v d m ≡ f
-named_is Q v m f None d h gives = absurd h
-named_is Q v m f (Some w) d h gives = gives w h
+-- what is known of a keyword, and what its value gives
+named_is : (Q : Keyword → Type 0) (v : Tree) (m : ℕ) (f : Fault) (o : Option Keyword) → IsSomeAnd o Q
+    → ((w : Keyword) → Q w → of_value w v m ≡ f) → by_name o v m ≡ f
+named_is Q v m f None h gives = absurd h
+named_is Q v m f (Some w) h gives = gives w h
 
 bad_is : (m : ℕ) (p : Pair) → IsBad p → cause p m ≡ fault (keyword.BadKeyword m)
-bad_is m p h = named_is (λ w. (HasForm w p.1 → ⊥)) p.1 m (Some (keyword.BadKeyword m)) (keyword_of p.0) (is_coming p) h
+bad_is m p h = named_is (λ w. (HasForm w p.1 → ⊥)) p.1 m (Some (keyword.BadKeyword m)) (keyword_of p.0) h
     (λ w n. go (decided_form w p.1) (decided_no_pattern w p.1) (decided_engine w p.1) (decided_deep w p.1) n)
   where
     go : {F N E D : Type 0} (f : Decided F) (n : Decided N) (e : Decided E) (d : Decided D) → (F → ⊥)
@@ -94,7 +77,7 @@ bad_is m p h = named_is (λ w. (HasForm w p.1 → ⊥)) p.1 m (Some (keyword.Bad
     go (inr f) n e d no = refl
 
 bad_pattern_is : (m : ℕ) (p : Pair) → IsBadPattern p → cause p m ≡ fault (keyword.BadPattern m)
-bad_pattern_is m p h = named_is (λ w. IsNoPattern w p.1) p.1 m (Some (keyword.BadPattern m)) (keyword_of p.0) (is_coming p) h
+bad_pattern_is m p h = named_is (λ w. IsNoPattern w p.1) p.1 m (Some (keyword.BadPattern m)) (keyword_of p.0) h
     (λ w n. go (decided_form w p.1) (decided_no_pattern w p.1) (decided_engine w p.1) (decided_deep w p.1) (no_pattern_form w p.1 n) n)
   where
     go : {F N E D : Type 0} (f : Decided F) (n : Decided N) (e : Decided E) (d : Decided D) → F → N
@@ -104,7 +87,7 @@ bad_pattern_is m p h = named_is (λ w. IsNoPattern w p.1) p.1 m (Some (keyword.B
     go (inr f) n e d x y = absurd (f x)
 
 not_literal_is : (m : ℕ) (p : Pair) → IsNotLiteral p → cause p m ≡ fault (keyword.PatternNotLiteral m)
-not_literal_is m p h = named_is (λ w. NeedsEngine w p.1) p.1 m (Some (keyword.PatternNotLiteral m)) (keyword_of p.0) (is_coming p) h
+not_literal_is m p h = named_is (λ w. NeedsEngine w p.1) p.1 m (Some (keyword.PatternNotLiteral m)) (keyword_of p.0) h
     (λ w e. go (decided_form w p.1) (decided_no_pattern w p.1) (decided_engine w p.1) (decided_deep w p.1) (needs_engine_form w p.1 e)
     (one_of_both w p.1 e) e)
   where
@@ -116,7 +99,7 @@ not_literal_is m p h = named_is (λ w. NeedsEngine w p.1) p.1 m (Some (keyword.P
     go (inr f) n e d x no y = absurd (f x)
 
 deep_is : (m : ℕ) (p : Pair) → IsTooDeep p → cause p m ≡ fault (keyword.TooDeep m)
-deep_is m p h = named_is (λ w. HasForm w p.1 × KeepsDeep w p.1) p.1 m (Some (keyword.TooDeep m)) (keyword_of p.0) (is_coming p) h
+deep_is m p h = named_is (λ w. HasForm w p.1 × KeepsDeep w p.1) p.1 m (Some (keyword.TooDeep m)) (keyword_of p.0) h
     (λ w d. go (decided_form w p.1) (decided_no_pattern w p.1) (decided_engine w p.1) (decided_deep w p.1) d.0 (deep_alone w p.1 d.1)
     (deep_no_engine w p.1 d.1) d.1)
   where
@@ -129,7 +112,7 @@ deep_is m p h = named_is (λ w. HasForm w p.1 × KeepsDeep w p.1) p.1 m (Some (k
     go (inr f) n e d x no never y = absurd (f x)
 
 fair_is : (m : ℕ) (p : Pair) → IsFair p → cause p m ≡ None
-fair_is m p h = named_is (λ w. Suits w p.1) p.1 m None (keyword_of p.0) (is_coming p) h
+fair_is m p h = named_is (λ w. Suits w p.1) p.1 m None (keyword_of p.0) h
     (λ w s. go (decided_form w p.1) (decided_no_pattern w p.1) (decided_engine w p.1) (decided_deep w p.1) s.form s.pattern s.literal s.not_deep)
   where
     go : {F N E D : Type 0} (f : Decided F) (n : Decided N) (e : Decided E) (d : Decided D) → F → (N → ⊥) → (E → ⊥) → (D → ⊥)
@@ -191,7 +174,6 @@ fault_is t (Some (keyword.BadKeyword m)) h = member_fault t m IsBad (keyword.Bad
 fault_is t (Some (keyword.BadPattern m)) h = member_fault t m IsBadPattern (keyword.BadPattern m) (bad_pattern_is m) h
 fault_is t (Some (keyword.PatternNotLiteral m)) h = member_fault t m IsNotLiteral (keyword.PatternNotLiteral m) (not_literal_is m) h
 fault_is t (Some (keyword.TooDeep m)) h = member_fault t m IsTooDeep (keyword.TooDeep m) (deep_is m) h
-fault_is t (Some keyword.Unbuilt) h = member_fault t h.0 IsUnbuilt keyword.Unbuilt (unbuilt_is h.0) h.1
 fault_is t (Some keyword.OutOfMemory) h = absurd h
 
 -- a keyword tree has at most one fault

@@ -8,8 +8,8 @@ use Rattle.json_model.specs.Nest.{nest}
 use Rattle.json_model.specs.Tree.{Tree, scalar, array, object}
 use Rattle.json_traits.specs.Names.{name_of}
 use Rattle.json_traits.specs.Numbers.{whole}
-use Rattle.judge.specs.Names.{keyword_of, to_come}
-use Rattle.judge.specs.Validity.{AreDistinct, AreNames, AreTypeNames, HasDeep, HasFault, HasForm, IsBad, IsBadPattern, IsCount, IsDeep, IsFair, IsFirst, IsNoPattern, IsNotLiteral, IsToCome, IsTooDeep, IsTypeName, IsUnbuilt, IsUnknown, KeepsDeep, NeedsEngine, Suits}
+use Rattle.judge.specs.Names.{keyword_of}
+use Rattle.judge.specs.Validity.{AreDistinct, AreNames, AreTypeNames, HasDeep, HasFault, HasForm, IsBad, IsBadPattern, IsCount, IsDeep, IsFair, IsFirst, IsNoPattern, IsNotLiteral, IsTooDeep, IsTypeName, IsUnknown, KeepsDeep, NeedsEngine, Suits}
 use Rattle.judge.specs.Verdict.{IsNameOf}
 use Rattle.judge.specs.declared.errors.KeywordError.{KeywordError}
 use Rattle.judge.specs.declared.errors.KeywordError.TheVariants as keyword
@@ -77,36 +77,34 @@ decided_deep Pattern v = inr (λ h. h)
 decided_deep UniqueItems v = inr (λ h. h)
 decided_deep Required v = inr (λ h. h)
 
--- ---- a member has no fault, or one of the six
+-- ---- a member has no fault, or one of the five
 
 abbrev Pair : Type 0
 Pair = List ℕ × Tree
 
 abbrev IsFaulty : Pair → Type 0
-IsFaulty p = IsUnknown p ⊎ (IsUnbuilt p ⊎ (IsBad p ⊎ (IsBadPattern p ⊎ (IsNotLiteral p ⊎ IsTooDeep p))))
+IsFaulty p = IsUnknown p ⊎ (IsBad p ⊎ (IsBadPattern p ⊎ (IsNotLiteral p ⊎ IsTooDeep p)))
 
-by_keyword : (o : Option Keyword) (v : Tree) (P : Type 0) → Decided P
-    → IsSomeAnd o (λ w. Suits w v) ⊎ (((o ≡ None) × (P → ⊥)) ⊎ (((o ≡ None) × P)
+by_keyword : (o : Option Keyword) (v : Tree) → IsSomeAnd o (λ w. Suits w v) ⊎ ((o ≡ None)
     ⊎ (IsSomeAnd o (λ w. (HasForm w v → ⊥)) ⊎ (IsSomeAnd o (λ w. IsNoPattern w v) ⊎ (IsSomeAnd o (λ w. NeedsEngine w v)
-    ⊎ IsSomeAnd o (λ w. HasForm w v × KeepsDeep w v))))))
-by_keyword None v P (inl p) = inr (inr (inl (refl, p)))
-by_keyword None v P (inr n) = inr (inl (refl, n))
-by_keyword (Some w) v P d = elim (decided_form w v) [
+    ⊎ IsSomeAnd o (λ w. HasForm w v × KeepsDeep w v)))))
+by_keyword None v = inr (inl refl)
+by_keyword (Some w) v = elim (decided_form w v) [
   | inl form ↦ elim (decided_no_pattern w v) [
-    | inl bad ↦ inr (inr (inr (inr (inl bad))))
+    | inl bad ↦ inr (inr (inr (inl bad)))
     | inr pattern ↦ elim (decided_engine w v) [
-      | inl needs ↦ inr (inr (inr (inr (inr (inl needs)))))
+      | inl needs ↦ inr (inr (inr (inr (inl needs))))
       | inr literal ↦ elim (decided_deep w v) [
-        | inl deep ↦ inr (inr (inr (inr (inr (inr (form, deep))))))
+        | inl deep ↦ inr (inr (inr (inr (inr (form, deep)))))
         | inr not_deep ↦ inl (record { form = form; pattern = pattern; literal = literal; not_deep = not_deep })
       ]
     ]
   ]
-  | inr bad ↦ inr (inr (inr (inl bad)))
+  | inr bad ↦ inr (inr (inl bad))
 ]
 
 fair_or_faulty : (p : Pair) → IsFair p ⊎ IsFaulty p
-fair_or_faulty p = by_keyword (keyword_of p.0) p.1 (IsToCome p.0) (decided_true (list_any (bytes_eq p.0) to_come))
+fair_or_faulty p = by_keyword (keyword_of p.0) p.1
 
 -- ---- the first fault
 
@@ -124,28 +122,25 @@ all_or_first (p ∷ ps) = elim (fair_or_faulty p) [
   | inr faulty ↦ inr (zero, (tt, faulty))
 ]
 
-one_of_and : {A : Type 0} (o : Option A) (P Q R S U V : A → Type 0) → IsSomeAnd o (λ a. P a ⊎ (Q a ⊎ (R a ⊎ (S a ⊎ (U a ⊎ V a)))))
-    → IsSomeAnd o P ⊎ (IsSomeAnd o Q ⊎ (IsSomeAnd o R ⊎ (IsSomeAnd o S ⊎ (IsSomeAnd o U ⊎ IsSomeAnd o V))))
-one_of_and None P Q R S U V h = absurd h
-one_of_and (Some a) P Q R S U V h = h
+one_of_and : {A : Type 0} (o : Option A) (P Q R S U : A → Type 0) → IsSomeAnd o (λ a. P a ⊎ (Q a ⊎ (R a ⊎ (S a ⊎ U a))))
+    → IsSomeAnd o P ⊎ (IsSomeAnd o Q ⊎ (IsSomeAnd o R ⊎ (IsSomeAnd o S ⊎ IsSomeAnd o U)))
+one_of_and None P Q R S U h = absurd h
+one_of_and (Some a) P Q R S U h = h
 
 module _ (t : Tree) (is : IsSome (as_object t)) where
   first_is : (m : ℕ) (P : Pair → Type 0) → AllByRecursion IsFair (take m (pairs_of t)) → IsSomeAnd (slice_get (pairs_of t) m) P → IsFirst t m P
   first_is m P before here = record { object = is; before = before; here = here }
 
   of_first : (m : ℕ) → FirstIn (pairs_of t) m IsFaulty → (f : Option KeywordError) × HasFault t f
-  of_first m (before, here) = elim (one_of_and (slice_get (pairs_of t) m) IsUnknown IsUnbuilt IsBad IsBadPattern IsNotLiteral IsTooDeep here) [
+  of_first m (before, here) = elim (one_of_and (slice_get (pairs_of t) m) IsUnknown IsBad IsBadPattern IsNotLiteral IsTooDeep here) [
     | inl unknown ↦ (Some (keyword.UnknownKeyword m), first_is m IsUnknown before unknown)
     | inr rest ↦ elim rest [
-      | inl unbuilt ↦ (Some keyword.Unbuilt, (m, first_is m IsUnbuilt before unbuilt))
+      | inl bad ↦ (Some (keyword.BadKeyword m), first_is m IsBad before bad)
       | inr rest ↦ elim rest [
-        | inl bad ↦ (Some (keyword.BadKeyword m), first_is m IsBad before bad)
+        | inl bad ↦ (Some (keyword.BadPattern m), first_is m IsBadPattern before bad)
         | inr rest ↦ elim rest [
-          | inl bad ↦ (Some (keyword.BadPattern m), first_is m IsBadPattern before bad)
-          | inr rest ↦ elim rest [
-            | inl needs ↦ (Some (keyword.PatternNotLiteral m), first_is m IsNotLiteral before needs)
-            | inr deep ↦ (Some (keyword.TooDeep m), first_is m IsTooDeep before deep)
-          ]
+          | inl needs ↦ (Some (keyword.PatternNotLiteral m), first_is m IsNotLiteral before needs)
+          | inr deep ↦ (Some (keyword.TooDeep m), first_is m IsTooDeep before deep)
         ]
       ]
     ]

@@ -5,7 +5,7 @@ use Rattle.judge.specs.Right.{Right}
 use Rattle.judge.specs.declared.errors.Fault.{Fault}
 use Rattle.judge.specs.declared.errors.Fault.TheVariants.{Malformed, NotText, NumberTooWide}
 use Rattle.judge.specs.declared.errors.JudgeError.{JudgeError}
-use Rattle.judge.specs.declared.errors.JudgeError.TheVariants.{Keywords, NotAnObject, UnknownKeyword, BadKeyword, BadPattern, PatternNotLiteral, TooDeep, Document, Unbuilt, OutOfMemory}
+use Rattle.judge.specs.declared.errors.JudgeError.TheVariants.{Keywords, NotAnObject, UnknownKeyword, BadKeyword, BadPattern, PatternNotLiteral, TooDeep, Document, OutOfMemory}
 
 -- the line is two hex texts with one space between
 pub record IsPair (line keywords document : List ℕ) : Type 0 where
@@ -32,7 +32,6 @@ name_of (Err (BadPattern member)) = Some (codes "BadPattern")
 name_of (Err (PatternNotLiteral member)) = Some (codes "PatternNotLiteral")
 name_of (Err (TooDeep member)) = Some (codes "TooDeep")
 name_of (Err (Document fault)) = Some (codes "Document(" ++ fault_name fault ++ codes ")")
-name_of (Err Unbuilt) = Some (codes "Unbuilt")
 name_of (Err OutOfMemory) = None
 
 -- the line is a pair, and its answer is the printed name of what is right of the two byte slices

@@ -2,12 +2,12 @@
 -- own. What it is to pass checks is said by the clauses that cite these words, and nowhere else.
 use Rattle.std.specs.Prelude.{List, ℕ, ◌≡◌, ◌↔◌, Some}
 use Rattle.json_model.specs.Tree.{Tree}
-use Rattle.judge.specs.Validity.{HasFault, IsBad, IsBadPattern, IsCopied, IsFair, IsNotLiteral, IsTooDeep, IsUnbuilt, IsUnknown, IsValid, AsksUnique, NeverAsksUnique}
+use Rattle.judge.specs.Validity.{HasFault, IsBad, IsBadPattern, IsCopied, IsFair, IsNotLiteral, IsTooDeep, IsUnknown, IsValid, AsksUnique, NeverAsksUnique}
 use Rattle.judge.specs.Verdict.{HoldsAt, Verdict}
 use Rattle.judge.specs.inner.Passes.{NeedsNoMemory, Passes}
 use Rattle.judge.specs.declared.checks.Checks.{Checks}
 use Rattle.judge.specs.declared.errors.KeywordError.{KeywordError}
-use Rattle.judge.specs.declared.errors.KeywordError.TheVariants.{NotAnObject, UnknownKeyword, BadKeyword, BadPattern, PatternNotLiteral, TooDeep, Unbuilt, OutOfMemory}
+use Rattle.judge.specs.declared.errors.KeywordError.TheVariants.{NotAnObject, UnknownKeyword, BadKeyword, BadPattern, PatternNotLiteral, TooDeep, OutOfMemory}
 
 -- member number m is p and has the fault e
 abbrev pub IsFault : ℕ → List ℕ × Tree → KeywordError → Type 0
@@ -17,7 +17,6 @@ IsFault m p (BadKeyword n) = (n ≡ m) × IsBad p
 IsFault m p (BadPattern n) = (n ≡ m) × IsBadPattern p
 IsFault m p (PatternNotLiteral n) = (n ≡ m) × IsNotLiteral p
 IsFault m p (TooDeep n) = (n ≡ m) × IsTooDeep p
-IsFault m p Unbuilt = IsUnbuilt p
 IsFault m p OutOfMemory = IsCopied p
 
 -- the keyword object t has no fault, and a document passes the checks c exactly where it is valid; where t does not ask for unique

@@ -29,7 +29,3 @@ keywords =
 -- the keyword of a name, if there is one that is built
 abbrev pub keyword_of : List ℕ → Option Keyword
 keyword_of name = lookup name keywords
-
--- the names that are still to come
-abbrev pub to_come : List (List ℕ)
-to_come = []

@@ -9,7 +9,7 @@ use Rattle.judge.specs.Validity.{HasFault}
 use Rattle.judge.specs.Verdict.{Verdict}
 use Rattle.judge.specs.declared.errors.Fault.TheVariants as faults
 use Rattle.judge.specs.declared.errors.JudgeError.{JudgeError}
-use Rattle.judge.specs.declared.errors.JudgeError.TheVariants.{Keywords, NotAnObject, UnknownKeyword, BadKeyword, BadPattern, PatternNotLiteral, TooDeep, Document, Unbuilt, OutOfMemory}
+use Rattle.judge.specs.declared.errors.JudgeError.TheVariants.{Keywords, NotAnObject, UnknownKeyword, BadKeyword, BadPattern, PatternNotLiteral, TooDeep, Document, OutOfMemory}
 use Rattle.judge.specs.declared.errors.KeywordError.{KeywordError}
 use Rattle.judge.specs.declared.errors.KeywordError.TheVariants as keyword
 
@@ -34,7 +34,6 @@ keyword_error (keyword.BadKeyword m) = BadKeyword m
 keyword_error (keyword.BadPattern m) = BadPattern m
 keyword_error (keyword.PatternNotLiteral m) = PatternNotLiteral m
 keyword_error (keyword.TooDeep m) = TooDeep m
-keyword_error keyword.Unbuilt = Unbuilt
 keyword_error keyword.OutOfMemory = OutOfMemory
 
 -- ---- the answer

@@ -9,11 +9,11 @@ use Rattle.json_model.specs.Nest.{nest}
 use Rattle.json_model.specs.Tree.{Tree}
 use Rattle.json_traits.specs.Numbers.{whole}
 use Rattle.json_traits.specs.declared.types.json_type.JsonType.{JsonType}
-use Rattle.judge.specs.Names.{keyword_of, to_come}
+use Rattle.judge.specs.Names.{keyword_of}
 use Rattle.judge.specs.Patterns.{IsLiteral, IsPattern}
 use Rattle.judge.specs.Verdict.{IsNameOf}
 use Rattle.judge.specs.declared.errors.KeywordError.{KeywordError}
-use Rattle.judge.specs.declared.errors.KeywordError.TheVariants.{NotAnObject, UnknownKeyword, BadKeyword, BadPattern, PatternNotLiteral, TooDeep, Unbuilt, OutOfMemory}
+use Rattle.judge.specs.declared.errors.KeywordError.TheVariants.{NotAnObject, UnknownKeyword, BadKeyword, BadPattern, PatternNotLiteral, TooDeep, OutOfMemory}
 use Rattle.judge.specs.declared.keyword.Keyword.{Keyword}
 use Rattle.judge.specs.declared.keyword.Keyword.TheVariants.{«Type», Enum, Const, Bound, Least, Greatest, Pattern, Required, UniqueItems}
 
@@ -92,16 +92,9 @@ pub record Suits (w : Keyword) (v : Tree) : Type 0 where
 abbrev pub IsFair : List ℕ × Tree → Type 0
 IsFair p = IsSomeAnd (keyword_of p.0) (λ w. Suits w p.1)
 
--- the name is one that is still to come
-abbrev pub IsToCome : List ℕ → Type 0
-IsToCome name = IsTrue (list_any (bytes_eq name) to_come)
-
 -- a member's faults, of which it has one at most
 abbrev pub IsUnknown : List ℕ × Tree → Type 0
-IsUnknown p = (keyword_of p.0 ≡ None) × (IsToCome p.0 → ⊥)
-
-abbrev pub IsUnbuilt : List ℕ × Tree → Type 0
-IsUnbuilt p = (keyword_of p.0 ≡ None) × IsToCome p.0
+IsUnknown p = keyword_of p.0 ≡ None
 
 abbrev pub IsBad : List ℕ × Tree → Type 0
 IsBad p = IsSomeAnd (keyword_of p.0) (λ w. (HasForm w p.1 → ⊥))
@@ -169,5 +162,4 @@ HasFault t (Some (BadKeyword m)) = IsFirst t m IsBad
 HasFault t (Some (BadPattern m)) = IsFirst t m IsBadPattern
 HasFault t (Some (PatternNotLiteral m)) = IsFirst t m IsNotLiteral
 HasFault t (Some (TooDeep m)) = IsFirst t m IsTooDeep
-HasFault t (Some Unbuilt) = (m : ℕ) × IsFirst t m IsUnbuilt
 HasFault t (Some OutOfMemory) = ⊥

@@ -95,7 +95,6 @@ fn printed(verdict: Result<bool, JudgeError>) -> Option<&'static [u8]>
         Err(JudgeError::Document(Fault::Malformed)) => Some(b"Document(Malformed)\n"),
         Err(JudgeError::Document(Fault::NotText)) => Some(b"Document(NotText)\n"),
         Err(JudgeError::Document(Fault::NumberTooWide)) => Some(b"Document(NumberTooWide)\n"),
-        Err(JudgeError::Unbuilt) => Some(b"Unbuilt\n"),
         Err(JudgeError::OutOfMemory) => None,
     }
 }

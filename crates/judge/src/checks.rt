@@ -137,7 +137,6 @@ impl Checks {
     {
         match Keyword::from_name(name) {
             Some(keyword) => self.add(alloc, keyword, value, member),
-            None if Keyword::is_to_come(name) => Err(KeywordError::Unbuilt),
             None => Err(KeywordError::UnknownKeyword { member }),
         }
     }

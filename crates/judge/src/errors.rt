@@ -43,9 +43,6 @@ pub enum KeywordError {
     /// an element.
     #[error("TooDeep")]
     TooDeep { member: usize },
-    /// The first faulty member has a name that is known and not built yet, as in `{"uniqueItems":true}`.
-    #[error("Unbuilt")]
-    Unbuilt,
     /// Memory for the names that `required` lists, for the values of `enum` or `const`, or for a pattern is wanting.
     #[error("OutOfMemory")]
     OutOfMemory,
@@ -80,9 +77,6 @@ pub enum JudgeError {
     /// The document's bytes are no JSON tree.
     #[error("Document")]
     Document(Fault),
-    /// The first faulty member has a name that is known and not built yet, as in `{"uniqueItems":true}`.
-    #[error("Unbuilt")]
-    Unbuilt,
     /// Memory for the nesting of a slice, for the names that `required` lists, for the values of `enum` or `const`, or for a
     /// pattern is wanting.
     #[error("OutOfMemory")]
@@ -125,7 +119,6 @@ impl JudgeError {
             KeywordError::BadPattern { member } => JudgeError::BadPattern { member },
             KeywordError::PatternNotLiteral { member } => JudgeError::PatternNotLiteral { member },
             KeywordError::TooDeep { member } => JudgeError::TooDeep { member },
-            KeywordError::Unbuilt => JudgeError::Unbuilt,
             KeywordError::OutOfMemory => JudgeError::OutOfMemory,
         }
     }

@@ -2,7 +2,7 @@
 
 ghost use Rattle.std.specs.Prelude.{◌≡◌, bytes_eq};
 ghost use Rattle.std.specs.List.{list_any};
-ghost use Rattle.judge.specs.Names.{keyword_of, to_come};
+ghost use Rattle.judge.specs.Names.{keyword_of};
 
 use json_semantics::numeric_check::BoundOp;
 
@@ -66,13 +66,4 @@ impl Keyword {
         }
     }
 
-    /// Whether a name is that of a keyword that is still to come.
-    pub(crate) fn is_to_come(name: &str) -> bool
-        ensures { result ≡ list_any (bytes_eq name.now) to_come }
-    {
-        match name {
-            _ if false => true,
-            _ => false,
-        }
-    }
 }

@@ -39,7 +39,6 @@ fn errors_show_their_variants_names(rt: HostRuntime) -> Result<(), Fail> {
             AnyError::Keyword(KeywordError::BadKeyword { member: 2 }),
             "BadKeyword",
         ),
-        (AnyError::Keyword(KeywordError::Unbuilt), "Unbuilt"),
         (AnyError::Keyword(KeywordError::OutOfMemory), "OutOfMemory"),
         (
             AnyError::Judge(JudgeError::Keywords(Fault::Malformed)),
@@ -58,7 +57,6 @@ fn errors_show_their_variants_names(rt: HostRuntime) -> Result<(), Fail> {
             AnyError::Judge(JudgeError::Document(Fault::NotText)),
             "Document",
         ),
-        (AnyError::Judge(JudgeError::Unbuilt), "Unbuilt"),
         (AnyError::Judge(JudgeError::OutOfMemory), "OutOfMemory"),
         (AnyError::Read(Failed), "Failed"),
         (AnyError::Write(SinkError::Failed), "Failed"),

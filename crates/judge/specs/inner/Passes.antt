@@ -30,7 +30,7 @@ use Rattle.judge.specs.declared.limits.Limit.{Limit}
 use Rattle.judge.specs.declared.limits.Limit.TheVariants.{Small, Large}
 use Rattle.judge.specs.declared.limits.Limits.{Limits}
 use Rattle.judge.specs.declared.errors.KeywordError.{KeywordError}
-use Rattle.judge.specs.declared.errors.KeywordError.TheVariants.{NotAnObject, UnknownKeyword, BadKeyword, BadPattern, PatternNotLiteral, TooDeep, Unbuilt, OutOfMemory}
+use Rattle.judge.specs.declared.errors.KeywordError.TheVariants.{NotAnObject, UnknownKeyword, BadKeyword, BadPattern, PatternNotLiteral, TooDeep, OutOfMemory}
 use Rattle.judge.specs.declared.keyword.Keyword.{Keyword}
 use Rattle.judge.specs.declared.keyword.Keyword.TheVariants.{«Type», Enum, Const, Bound, Least, Greatest, Pattern, Required, UniqueItems}
 use Rattle.judge.specs.declared.keyword.Measure.{Measure}
@@ -182,7 +182,6 @@ AddFault m w v (BadKeyword n) = (n ≡ m) × (HasForm w v → ⊥)
 AddFault m w v (BadPattern n) = (n ≡ m) × IsNoPattern w v
 AddFault m w v (PatternNotLiteral n) = (n ≡ m) × NeedsEngine w v
 AddFault m w v (TooDeep n) = (n ≡ m) × HasForm w v × KeepsDeep w v
-AddFault m w v Unbuilt = ⊥
 AddFault m w v OutOfMemory = TakesMemory w v
 
 -- the member p was taken in

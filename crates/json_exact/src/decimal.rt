@@ -221,7 +221,9 @@ impl Decimal {
     {
         let count = groups.len() / 2;
         if count > FEW_GROUPS || group_or_zero(groups, 0) == 0 {
-            return Decimal::from_many_groups(negative, weight, groups);
+            // The answer moves by its fields, or the few groups would go through the memory that the call writes to.
+            let decimal = Decimal::from_many_groups(negative, weight, groups)?;
+            return Some(decimal);
         }
         let kept = few_groups(groups);
         let up = lifted(weight) as u64 + 1 + FRACTION_GROUPS as u64;

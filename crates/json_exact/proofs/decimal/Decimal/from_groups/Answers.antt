@@ -1,6 +1,7 @@
-use Rattle.std.proofs.Common.{rules, arith}
+use Rattle.std.proofs.Common.{rules, sym, subst, ℤ, w16, arith}
+use Rattle.std.proofs.lemmas.Int.{to_z-of_z}
 use Rattle.json_exact.specs.Digits.{joined}
-use Rattle.json_exact.specs.Groups.{groups_of}
+use Rattle.json_exact.specs.Groups.{groups_of, AreWorth}
 use Rattle.json_exact.proofs.DigitLaws.{above_none}
 use Rattle.json_exact.proofs.FewLaws.{few_are_narrow}
 use Rattle.json_exact.proofs.GroupLaws.{worth, lifts}
@@ -26,3 +27,7 @@ from_significant-requires-clause-exact c = (
 pub returns-clause-value : goal.returns-clause-value
 returns-clause-value c = λ q e. c.from_significant.ensures.value _ q c.few_groups-kept.ensures.holds
     (worth c.args.weight c.args.groups.now _ q c.requires.groups (lifts _ c.args.weight (search rules) c.lifted.ensures) e)
+
+pub returns-then-count-gt-FEW_GROUPS-clause-value : goal.returns-then-count-gt-FEW_GROUPS-clause-value
+returns-then-count-gt-FEW_GROUPS-clause-value c = λ q e. c.in_ok-decimal.ensures.value q
+    (subst (λ (w : ℤ). AreWorth w (groups_of c.args.groups.now) q) (sym (to_z-of_z w16 c.args.weight (search rules))) e)

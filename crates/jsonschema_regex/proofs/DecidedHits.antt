@@ -13,16 +13,19 @@ use Rattle.jsonschema_regex.proofs.HitLaws.{none_pass}
 
 decided_front : (w y : Text) → Decided ((rest : Text) × (y ≡ w ++ rest))
 decided_front w y = elim (decided_text (take (length w) y) w) [
-    inl e ↦ inl (drop (length w) y, sym (take-append-drop (length w) y) ∙ ap (λ z. z ++ drop (length w) y) e)
-  | inr n ↦ inr (λ (rest, e). n (ap (take (length w)) e ∙ take-append_seam w rest)) ]
+  | inl e ↦ inl (drop (length w) y, sym (take-append-drop (length w) y) ∙ ap (λ z. z ++ drop (length w) y) e)
+  | inr n ↦ inr (λ (rest, e). n (ap (take (length w)) e ∙ take-append_seam w rest))
+]
 
 decided_contains : (ws : List Text) (y : Text) → Decided (Contains ws y)
 decided_contains [] y = inr (λ (k, l, e). let no : k < 0 = l in omega (arith, no))
 decided_contains (w ∷ ws) y = elim (decided_text w y) [
-    inl e ↦ inl (0, omega arith, e)
+  | inl e ↦ inl (0, omega arith, e)
   | inr n ↦ elim (decided_contains ws y) [
-      inl (k, l, e) ↦ inl (suc k, omega (arith, l), e)
-    | inr m ↦ inr (λ (k, l, e). elsewhere n (λ j i f. m (j, i, f)) k l e) ] ]
+    | inl (k, l, e) ↦ inl (suc k, omega (arith, l), e)
+    | inr m ↦ inr (λ (k, l, e). elsewhere n (λ j i f. m (j, i, f)) k l e)
+  ]
+]
   where
     elsewhere : (w ≡ y → ⊥) → ((j : ℕ) → j < length ws → slice_index_or ws j y ≡ y → ⊥) → (k : ℕ) → k < length (w ∷ ws) →
         slice_index_or (w ∷ ws) k y ≡ y → ⊥

@@ -68,11 +68,12 @@ decided_reads (suc n) (c ∷ x) l = go (token_from false c x) refl (decided_read
         let (t, rest, us, f, q) = first_of c x ts r in let no : ◌≡◌ {A = Option (Token × Text)} None (Some (t, rest)) = sym e ∙ f in cc)
     go (Some p) e more = elim (more p.1 (let short = after_token c x p.1 p.0 e in
         let long : suc (length x) < suc n = l in omega (arith, short, long))) [
-        inl (ts, r) ↦ inl (p.0 ∷ ts, (c, x, p.1, refl, e, r))
-      | inr none ↦ inr (λ (ts, r).
-        let (t, rest, us, f, q) = first_of c x ts r in
-        let same = some_pair_parts t p.0 rest p.1 (sym f ∙ e) in
-        none (us, subst (λ z. Reads false z us) same.1 q)) ]
+          | inl (ts, r) ↦ inl (p.0 ∷ ts, (c, x, p.1, refl, e, r))
+          | inr none ↦ inr (λ (ts, r).
+              let (t, rest, us, f, q) = first_of c x ts r in
+              let same = some_pair_parts t p.0 rest p.1 (sym f ∙ e) in
+              none (us, subst (λ z. Reads false z us) same.1 q))
+        ]
 
 three_true : (a b c : Bool) → a && (b && c) ≡ true → (a ≡ true) × ((b ≡ true) × (c ≡ true))
 three_true true true c e = (refl, (refl, e))
@@ -91,8 +92,9 @@ passes t = apart t && (in_names (names t) (references t) && in_number (captures 
 -- a text is a pattern of the ECMA grammar, or it has no tree
 pub decided_grammar : (x : Text) → Decided ((t : Tree) × Grammar false x t)
 decided_grammar x = elim (decided_reads (suc (length x)) x (omega arith)) [
-    inr none ↦ inr (λ (t, g). none (tokens_of t, g.spells.reads))
-  | inl (ts, r) ↦ of_tokens ts r (tree_of_tokens ts) refl ]
+  | inr none ↦ inr (λ (t, g). none (tokens_of t, g.spells.reads))
+  | inl (ts, r) ↦ of_tokens ts r (tree_of_tokens ts) refl
+]
   where
     tests : (t : Tree) → Spells false x t → (b : Bool) → passes t ≡ b → Decided ((t : Tree) × Grammar false x t)
     tests t s true e =
@@ -163,9 +165,10 @@ after_literal x c y (inr (e, h)) = omega (arith, ap length e)
 some_run : (n : ℕ) (x : Text) → length x < n → (w : Text) × (y : Text) × Run x w y
 some_run zero x l = absurd (omega (arith, l))
 some_run (suc n) x l = elim (decided_literal x) [
-    inl (c, y, k) ↦
+  | inl (c, y, k) ↦
       let (w, z, r) = some_run n y (let short = after_literal x c y k in omega (arith, short, l)) in (c ∷ w, z, ((y, k, r.0), r.1))
-  | inr stops ↦ ([], x, (refl, stops)) ]
+  | inr stops ↦ ([], x, (refl, stops))
+]
 
 run_of : (x : Text) → (w : Text) × (y : Text) × Run x w y
 run_of x = some_run (suc (length x)) x (omega arith)
@@ -181,8 +184,9 @@ decided_alternatives (suc n) x l = go (run_of x) (decided_alternatives n)
   where
     last : (w y : Text) → Run x w y → ((more : Text) → y ≡ 124 ∷ more → ⊥) → Decided ((us : List Text) × Alternatives x us)
     last w y r nowhere = elim (decided_text y (41 ∷ 36 ∷ [])) [
-        inl e ↦ inl (w ∷ [], alternative_last x w y r.0 e)
-      | inr n ↦ inr (λ (us, a). alternative_none x w y us r nowhere n a) ]
+      | inl e ↦ inl (w ∷ [], alternative_last x w y r.0 e)
+      | inr n ↦ inr (λ (us, a). alternative_none x w y us r nowhere n a)
+    ]
 
     on : (w y more : Text) → Run x w y → y ≡ 124 ∷ more → Decided ((us : List Text) × Alternatives more us) →
         Decided ((us : List Text) × Alternatives x us)
@@ -192,23 +196,27 @@ decided_alternatives (suc n) x l = go (run_of x) (decided_alternatives n)
     go : (w : Text) × (y : Text) × Run x w y → ((z : Text) → length z < n → Decided ((us : List Text) × Alternatives z us)) →
         Decided ((us : List Text) × Alternatives x us)
     go (w, y, r) others = elim (decided_first 124 y) [
-        inl (more, e) ↦ on w y more r e (others more (let short = after_run x w y r.0 in
+      | inl (more, e) ↦ on w y more r e (others more (let short = after_run x w y r.0 in
           let shorter : length y ≡ suc (length more) = ap length e in omega (arith, short, shorter, l)))
-      | inr nowhere ↦ last w y r (λ more e. nowhere (more, e)) ]
+      | inr nowhere ↦ last w y r (λ more e. nowhere (more, e))
+    ]
 
 -- a text is a literal pattern, or it has no analysis
 pub decided_analysis : (x : Text) → Decided ((a : Analysis) × IsAnalysis x a)
 decided_analysis x = elim (decided_text x (94 ∷ 92 ∷ 83 ∷ 42 ∷ 36 ∷ [])) [
-    inl e ↦ inl (Analysis.no_whitespace, e)
-  | inr n ↦ begun n (decided_first 94 x) ]
+  | inl e ↦ inl (Analysis.no_whitespace, e)
+  | inr n ↦ begun n (decided_first 94 x)
+]
   where
     text : (x ≡ 94 ∷ 92 ∷ 83 ∷ 42 ∷ 36 ∷ [] → ⊥) → (body : Text) → x ≡ 94 ∷ body → ((y : Text) × (body ≡ 40 ∷ y) → ⊥) →
         (w : Text) × (y : Text) × Run body w y → Decided ((a : Analysis) × IsAnalysis x a)
     text n body e g (w, y, r) = elim (decided_text y []) [
-        inl h ↦ inl (Analysis.prefix w, (body, e, subst (λ z. Literals body w z) h r.0))
+      | inl h ↦ inl (Analysis.prefix w, (body, e, subst (λ z. Literals body w z) h r.0))
       | inr p ↦ elim (decided_text y (36 ∷ [])) [
-          inl h ↦ inl (Analysis.exact w, (body, e, subst (λ z. Literals body w z) h r.0))
-        | inr q ↦ inr (λ (a, h). no_form x body e n (text_none body w y r p q) (λ z vs f k. g (z, f)) a h) ] ]
+        | inl h ↦ inl (Analysis.exact w, (body, e, subst (λ z. Literals body w z) h r.0))
+        | inr q ↦ inr (λ (a, h). no_form x body e n (text_none body w y r p q) (λ z vs f k. g (z, f)) a h)
+      ]
+    ]
 
     group : (x ≡ 94 ∷ 92 ∷ 83 ∷ 42 ∷ 36 ∷ [] → ⊥) → (body y : Text) → x ≡ 94 ∷ body → body ≡ 40 ∷ y →
         Decided ((us : List Text) × Alternatives y us) → Decided ((a : Analysis) × IsAnalysis x a)

@@ -23,12 +23,12 @@ begins x front u v =
     let n = length front in
     let decides = bytes_decides front (take n x) in (
       λ h.
-      let whole : x ≡ front ++ drop n x = sym (take-append-drop n x) ∙ ap (λ z. z ++ drop n x) (sym (decides.0 h)) in
-      (chars (drop n x), ap chars whole ∙ chars-append front (drop n x) v),
+          let whole : x ≡ front ++ drop n x = sym (take-append-drop n x) ∙ ap (λ z. z ++ drop n x) (sym (decides.0 h)) in
+          (chars (drop n x), ap chars whole ∙ chars-append front (drop n x) v),
       λ (rest, e).
-      let whole : x ≡ front ++ encodes rest =
-      sym (encodes-chars x u) ∙ ap encodes e ∙ encodes-append (chars front) rest ∙ ap (λ z. z ++ encodes rest) (encodes-chars front v) in
-      decides.1 (sym (ap (take n) whole ∙ take-append_seam front (encodes rest))),
+          let whole : x ≡ front ++ encodes rest =
+          sym (encodes-chars x u) ∙ ap encodes e ∙ encodes-append (chars front) rest ∙ ap (λ z. z ++ encodes rest) (encodes-chars front v) in
+          decides.1 (sym (ap (take n) whole ∙ take-append_seam front (encodes rest))),
     )
 
 -- a text is one of some

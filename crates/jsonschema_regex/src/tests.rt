@@ -124,7 +124,10 @@ fn literal_patterns_and_others(rt: HostRuntime) {
         ("^$", "Some(Exact(\"\"))"),
         ("^()$", "Some(Alternation([\"\"]))"),
         ("^a\\.b", "Some(Prefix(\"a.b\"))"),
-        ("^(c|a|b|a)$", "Some(Alternation([\"a\", \"a\", \"b\", \"c\"]))"),
+        (
+            "^(c|a|b|a)$",
+            "Some(Alternation([\"a\", \"a\", \"b\", \"c\"]))",
+        ),
         ("^\\S*$", "Some(NoWhitespace)"),
         ("^foo.*", "None"),
         ("^(a)|(b)$", "None"),
@@ -135,7 +138,11 @@ fn literal_patterns_and_others(rt: HostRuntime) {
     for (pattern, expected) in table {
         match analyze_pattern(alloc, pattern) {
             Ok(found) => {
-                assert_eq!(rt; format!(in alloc; "{found:?}").as_deref(), Ok(expected), "{pattern}");
+                assert_eq!(rt;
+                    format!(in alloc; "{found:?}").as_deref(),
+                    Ok(expected),
+                    "{pattern}"
+                );
             }
             Err(_) => panic!(rt; "out of memory at {pattern}"),
         }

@@ -21,9 +21,9 @@ String = List ℕ
 
 hits_finds : (s : String) (a : Analysis) → IsAnalysis (points s) a → (y : String) → Hits a (points y) ↔ Finds s y
 hits_finds s a h y = let m = literal_matches (points s) a h in (
-    λ g. (m.tree, m.has.0, (m.same (points y)).0 g),
-    λ (t, g, k). (keeps_matches (points s) a t h g (points y)).1 k,
-  )
+  λ g. (m.tree, m.has.0, (m.same (points y)).0 g),
+  λ (t, g, k). (keeps_matches (points s) a t h g (points y)).1 k,
+)
 
 -- the analysis of the string under `pattern` asks for what the pattern asks for
 pub pattern_is : (v : Tree) (a : LiteralPattern) → IsSomeAnd (as_string v) (λ s. IsAnalysis (points s) (kept_of a)) → IsPatternOf v a
@@ -60,10 +60,12 @@ pattern_suits v a h = record {
 -- a pattern that needs no engine has an analysis
 literal_of : (s : String) → ((IsPattern s → ⊥) → ⊥) → (IsPattern s × (IsLiteral s → ⊥) → ⊥) → IsLiteral s
 literal_of s pattern literal = elim (decided_analysis (points s)) [
-    inl h ↦ h
+  | inl h ↦ h
   | inr none ↦ elim (decided_grammar (points s)) [
-      inl p ↦ absurd (literal (p, none))
-    | inr n ↦ absurd (pattern n) ] ]
+    | inl p ↦ absurd (literal (p, none))
+    | inr n ↦ absurd (pattern n)
+  ]
+]
 
 -- whether a string is found is decided, where the pattern has no fault
 pub decided_found : (o p : Option String) → (IsSomeAnd o (λ s. IsPattern s → ⊥) → ⊥) → (IsSomeAnd o (λ s. IsPattern s × (IsLiteral s → ⊥)) → ⊥)
@@ -74,5 +76,6 @@ decided_found (Some s) p pattern literal =
   where
     find : (a : Analysis) → IsAnalysis (points s) a → (y : String) → Decided (Finds s y)
     find a h y = let same = hits_finds s a h y in elim (decided_hits a (points y)) [
-        inl g ↦ inl (same.0 g)
-      | inr n ↦ inr (λ g. n (same.1 g)) ]
+      | inl g ↦ inl (same.0 g)
+      | inr n ↦ inr (λ g. n (same.1 g))
+    ]

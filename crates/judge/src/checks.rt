@@ -21,7 +21,7 @@ use crate::meets::{
 };
 use crate::names::{meets_required, read_names};
 use crate::patterns::{meets_pattern, read_pattern};
-use crate::read::{read_bound, read_limit, read_types, read_truth};
+use crate::read::{read_bound, read_limit, read_truth, read_types};
 use json_exact::{OutOfMemory, Value};
 use json_traits::types::JsonTypeSet;
 use json_traits::{Node, Object};

@@ -65,5 +65,4 @@ impl Keyword {
             _ => None,
         }
     }
-
 }

@@ -52,10 +52,7 @@ fn refusal(alloc: Global, pattern: &str, member: usize) -> KeywordError
 }
 
 /// Whether a value is no string, or one that the pattern hits, if there is one.
-pub(crate) fn meets_pattern<'a, N: Node<'a>>(
-    pattern: &Option<LiteralPattern>,
-    node: &N,
-) -> bool
+pub(crate) fn meets_pattern<'a, N: Node<'a>>(pattern: &Option<LiteralPattern>, node: &N) -> bool
     ensures { IsTrue result ↔ IfSome pattern.now (IsHit (N.tree node.now)) }
 {
     let Some(analysis) = pattern else {

@@ -27,15 +27,43 @@ fn nulls(alloc: Global, count: u32) -> Result<Value, AllocError> {
 fn numbers_are_written_in_their_forms(rt: HostRuntime) -> Result<(), Fail> {
     let alloc = rt.alloc();
     let rows = [
-        ("1", NumericForm::Long, "010000500a00009028000000000000000100"),
+        (
+            "1",
+            NumericForm::Long,
+            "010000500a00009028000000000000000100",
+        ),
         ("1", NumericForm::ShortVarlena, "01000050050000900b00800100"),
-        ("1.0", NumericForm::Short, "01000050080000902000000080800100"),
-        ("1.5", NumericForm::Short, "010000500a00009028000000808001008813"),
-        ("-1.5", NumericForm::Long, "010000500c000090300000000140000001008813"),
-        ("0.0001", NumericForm::Short, "0100005008000090200000007f820100"),
+        (
+            "1.0",
+            NumericForm::Short,
+            "01000050080000902000000080800100",
+        ),
+        (
+            "1.5",
+            NumericForm::Short,
+            "010000500a00009028000000808001008813",
+        ),
+        (
+            "-1.5",
+            NumericForm::Long,
+            "010000500c000090300000000140000001008813",
+        ),
+        (
+            "0.0001",
+            NumericForm::Short,
+            "0100005008000090200000007f820100",
+        ),
         ("0.00", NumericForm::Short, "0100005006000090180000000081"),
-        ("1e131071", NumericForm::Short, "010000500a000090280000000000ff7fe803"),
-        ("1e38", NumericForm::Short, "01000050080000902000000009806400"),
+        (
+            "1e131071",
+            NumericForm::Short,
+            "010000500a000090280000000000ff7fe803",
+        ),
+        (
+            "1e38",
+            NumericForm::Short,
+            "01000050080000902000000009806400",
+        ),
     ];
     for (text, form, hex) in &rows {
         let bytes = encode_with(alloc, &number(text)?, *form)?;
@@ -59,15 +87,23 @@ const NULLS: &str = "\
 fn values_are_written(rt: HostRuntime) -> Result<(), Fail> {
     let alloc = rt.alloc();
     let mut one = Map::new(alloc);
-    let _none = one.insert(String::from_str(alloc, "a")?, number("1")?).is_ok();
+    let _none = one
+        .insert(String::from_str(alloc, "a")?, number("1")?)
+        .is_ok();
     let mut pair = Vec::new(alloc);
     let _first = pair.push(number("1")?).is_ok();
     let _second = pair.push(number("1.0")?).is_ok();
     let rows = [
         (Value::Null, "01000050000000c0"),
         (Value::Bool(true), "01000050000000b0"),
-        (Value::String(String::from_str(alloc, "a")?), "010000500100008061"),
-        (Value::Object(one), "01000020010000800b000010610000002000000000800100"),
+        (
+            Value::String(String::from_str(alloc, "a")?),
+            "010000500100008061",
+        ),
+        (
+            Value::Object(one),
+            "01000020010000800b000010610000002000000000800100",
+        ),
         (
             Value::Array(pair),
             "02000040080000900800001020000000008001002000000080800100",

@@ -39,6 +39,18 @@ fn errors_show_their_variants_names(rt: HostRuntime) -> Result<(), Fail> {
             AnyError::Keyword(KeywordError::BadKeyword { member: 2 }),
             "BadKeyword",
         ),
+        (
+            AnyError::Keyword(KeywordError::TooDeep { member: 2 }),
+            "TooDeep",
+        ),
+        (
+            AnyError::Keyword(KeywordError::BadPattern { member: 2 }),
+            "BadPattern",
+        ),
+        (
+            AnyError::Keyword(KeywordError::PatternNotLiteral { member: 2 }),
+            "PatternNotLiteral",
+        ),
         (AnyError::Keyword(KeywordError::OutOfMemory), "OutOfMemory"),
         (
             AnyError::Judge(JudgeError::Keywords(Fault::Malformed)),
@@ -52,6 +64,18 @@ fn errors_show_their_variants_names(rt: HostRuntime) -> Result<(), Fail> {
         (
             AnyError::Judge(JudgeError::BadKeyword { member: 2 }),
             "BadKeyword",
+        ),
+        (
+            AnyError::Judge(JudgeError::TooDeep { member: 2 }),
+            "TooDeep",
+        ),
+        (
+            AnyError::Judge(JudgeError::BadPattern { member: 2 }),
+            "BadPattern",
+        ),
+        (
+            AnyError::Judge(JudgeError::PatternNotLiteral { member: 2 }),
+            "PatternNotLiteral",
         ),
         (
             AnyError::Judge(JudgeError::Document(Fault::NotText)),

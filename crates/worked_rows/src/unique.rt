@@ -24,7 +24,9 @@ fn push_number(payload: &mut Vec<u8>, number: u32) -> Option<()> {
         ([0, 0], [0, 0]) => payload.extend_from_slice(&[24, 0, 0, 0, 0, 128]).ok(),
         ([0, 0], [a, b]) => payload.extend_from_slice(&[32, 0, 0, 0, 0, 128, a, b]).ok(),
         ([a, b], [0, 0]) => payload.extend_from_slice(&[32, 0, 0, 0, 1, 128, a, b]).ok(),
-        ([a, b], [c, d]) => payload.extend_from_slice(&[40, 0, 0, 0, 1, 128, a, b, c, d]).ok(),
+        ([a, b], [c, d]) => payload
+            .extend_from_slice(&[40, 0, 0, 0, 1, 128, a, b, c, d])
+            .ok(),
     }
 }
 
@@ -114,7 +116,11 @@ fn elements_are_unique_in_both(rt: HostRuntime) -> Result<(), Fail> {
     ];
     let keywords = decode_hex(alloc, UNIQUE)?;
     for (name, bytes, unique) in &rows {
-        assert_eq!(rt; answers(alloc, bytes), Some((*unique, *unique, *unique)), "{name}");
+        assert_eq!(rt;
+            answers(alloc, bytes),
+            Some((*unique, *unique, *unique)),
+            "{name}"
+        );
         assert_eq!(rt; judge(alloc, &keywords, bytes), Ok(*unique), "{name}");
     }
     Ok(())
@@ -164,7 +170,11 @@ fn elements_may_nest_as_deep_as_they_are_long(rt: HostRuntime) -> Result<(), Fai
     let keywords = decode_hex(alloc, UNIQUE)?;
     for (first, second, valid) in &[(99_999, 99_999, false), (99_999, 99_998, true)] {
         let document = nested_twice(alloc, *first, *second).ok_or("memory")?;
-        assert_eq!(rt; judge(alloc, &keywords, &document), Ok(*valid), "{first}, {second}");
+        assert_eq!(rt;
+            judge(alloc, &keywords, &document),
+            Ok(*valid),
+            "{first}, {second}"
+        );
     }
     Ok(())
 }

@@ -16,6 +16,10 @@ enum Json {
     False,
     Number(&'static str),
     Text(&'static str),
+    /// An array of numbers.
+    Numbers(&'static [&'static str]),
+    /// The object of these two numbers, `{"a":[1,{"b":2}]}`.
+    Nested(&'static str, &'static str),
     /// An array of strings.
     Texts(&'static [&'static str]),
     /// The object with these keys, each with null.
@@ -469,6 +473,172 @@ const ROWS: &[Row] = &[
         Json::Null,
         BAD,
     ),
+    // a constant of each kind, and a document of each
+    ("const", Json::Null, Json::Null, VALID),
+    ("const", Json::Null, Json::False, INVALID),
+    ("const", Json::Null, Json::Number("9"), INVALID),
+    ("const", Json::Null, Json::Text("ab"), INVALID),
+    ("const", Json::Null, Json::Texts(&["a", "b"]), INVALID),
+    ("const", Json::Null, Json::Keys(&["a", "b"]), INVALID),
+    ("const", Json::False, Json::Null, INVALID),
+    ("const", Json::False, Json::False, VALID),
+    ("const", Json::False, Json::Number("9"), INVALID),
+    ("const", Json::False, Json::Text("ab"), INVALID),
+    ("const", Json::False, Json::Texts(&["a", "b"]), INVALID),
+    ("const", Json::False, Json::Keys(&["a", "b"]), INVALID),
+    ("const", Json::Number("9"), Json::Null, INVALID),
+    ("const", Json::Number("9"), Json::False, INVALID),
+    ("const", Json::Number("9"), Json::Number("9"), VALID),
+    ("const", Json::Number("9"), Json::Text("ab"), INVALID),
+    (
+        "const",
+        Json::Number("9"),
+        Json::Texts(&["a", "b"]),
+        INVALID,
+    ),
+    ("const", Json::Number("9"), Json::Keys(&["a", "b"]), INVALID),
+    ("const", Json::Text("ab"), Json::Null, INVALID),
+    ("const", Json::Text("ab"), Json::False, INVALID),
+    ("const", Json::Text("ab"), Json::Number("9"), INVALID),
+    ("const", Json::Text("ab"), Json::Text("ab"), VALID),
+    ("const", Json::Text("ab"), Json::Texts(&["a", "b"]), INVALID),
+    ("const", Json::Text("ab"), Json::Keys(&["a", "b"]), INVALID),
+    ("const", Json::Texts(&["a", "b"]), Json::Null, INVALID),
+    ("const", Json::Texts(&["a", "b"]), Json::False, INVALID),
+    (
+        "const",
+        Json::Texts(&["a", "b"]),
+        Json::Number("9"),
+        INVALID,
+    ),
+    ("const", Json::Texts(&["a", "b"]), Json::Text("ab"), INVALID),
+    (
+        "const",
+        Json::Texts(&["a", "b"]),
+        Json::Texts(&["a", "b"]),
+        VALID,
+    ),
+    (
+        "const",
+        Json::Texts(&["a", "b"]),
+        Json::Keys(&["a", "b"]),
+        INVALID,
+    ),
+    ("const", Json::Keys(&["a", "b"]), Json::Null, INVALID),
+    ("const", Json::Keys(&["a", "b"]), Json::False, INVALID),
+    ("const", Json::Keys(&["a", "b"]), Json::Number("9"), INVALID),
+    ("const", Json::Keys(&["a", "b"]), Json::Text("ab"), INVALID),
+    (
+        "const",
+        Json::Keys(&["a", "b"]),
+        Json::Texts(&["a", "b"]),
+        INVALID,
+    ),
+    (
+        "const",
+        Json::Keys(&["a", "b"]),
+        Json::Keys(&["a", "b"]),
+        VALID,
+    ),
+    // numbers are equal by value, arrays place by place, objects by key
+    ("const", Json::Number("0"), Json::Number("0.00"), VALID),
+    ("const", Json::Number("0"), Json::Number("1"), INVALID),
+    (
+        "const",
+        Json::Numbers(&["1", "2"]),
+        Json::Numbers(&["1.0", "2.00"]),
+        VALID,
+    ),
+    (
+        "const",
+        Json::Numbers(&["1", "2"]),
+        Json::Numbers(&["2", "1"]),
+        INVALID,
+    ),
+    (
+        "const",
+        Json::Numbers(&["1", "2"]),
+        Json::Numbers(&["1"]),
+        INVALID,
+    ),
+    (
+        "const",
+        Json::Keys(&["b", "a"]),
+        Json::Keys(&["a", "b"]),
+        VALID,
+    ),
+    (
+        "const",
+        Json::Keys(&["a"]),
+        Json::Keys(&["a", "b"]),
+        INVALID,
+    ),
+    (
+        "const",
+        Json::Keys(&["a", "b"]),
+        Json::Keys(&["a"]),
+        INVALID,
+    ),
+    (
+        "const",
+        Json::Nested("1", "1.0"),
+        Json::Nested("1.0", "1"),
+        VALID,
+    ),
+    (
+        "const",
+        Json::Nested("1", "1.0"),
+        Json::Nested("1.0", "2"),
+        INVALID,
+    ),
+    ("const", Json::Text("1"), Json::Number("1"), INVALID),
+    // one of a list
+    ("enum", Json::Numbers(&["1"]), Json::Number("1.0"), VALID),
+    (
+        "enum",
+        Json::Numbers(&["2", "1"]),
+        Json::Number("1.0"),
+        VALID,
+    ),
+    (
+        "enum",
+        Json::Numbers(&["2", "1"]),
+        Json::Number("3"),
+        INVALID,
+    ),
+    ("enum", Json::Texts(&["a", "ab"]), Json::Null, INVALID),
+    ("enum", Json::Texts(&["a", "ab"]), Json::False, INVALID),
+    (
+        "enum",
+        Json::Texts(&["a", "ab"]),
+        Json::Number("9"),
+        INVALID,
+    ),
+    ("enum", Json::Texts(&["a", "ab"]), Json::Text("ab"), VALID),
+    (
+        "enum",
+        Json::Texts(&["a", "ab"]),
+        Json::Texts(&["a", "b"]),
+        INVALID,
+    ),
+    (
+        "enum",
+        Json::Texts(&["a", "ab"]),
+        Json::Keys(&["a", "b"]),
+        INVALID,
+    ),
+    // nothing is one of none, and what is no list is no list
+    ("enum", Json::Texts(&[]), Json::Null, INVALID),
+    ("enum", Json::Texts(&[]), Json::False, INVALID),
+    ("enum", Json::Texts(&[]), Json::Number("9"), INVALID),
+    ("enum", Json::Texts(&[]), Json::Text("ab"), INVALID),
+    ("enum", Json::Texts(&[]), Json::Texts(&["a", "b"]), INVALID),
+    ("enum", Json::Texts(&[]), Json::Keys(&["a", "b"]), INVALID),
+    ("enum", Json::Null, Json::Null, BAD),
+    ("enum", Json::False, Json::Null, BAD),
+    ("enum", Json::Number("9"), Json::Null, BAD),
+    ("enum", Json::Text("ab"), Json::Null, BAD),
+    ("enum", Json::Keys(&["a", "b"]), Json::Null, BAD),
     // required names
     ("required", Json::Texts(&[]), Json::Keys(&[]), VALID),
     ("required", Json::Texts(&[]), Json::Keys(&["b"]), VALID),
@@ -552,6 +722,35 @@ const ROWS: &[Row] = &[
     ("pattern", Json::Null, Json::Null, BAD),
 ];
 
+fn number_of(literal: &str) -> Option<Value> {
+    Some(Value::Number(Number::parse(literal).ok()?))
+}
+
+fn numbers_of(alloc: Global, literals: &[&str]) -> Option<Vec<Value>> {
+    let mut values = Vec::new(alloc);
+    for literal in literals {
+        values.push(number_of(literal)?).ok()?;
+    }
+    Some(values)
+}
+
+/// The object of one member, whose value is built.
+fn object_with(alloc: Global, key: &str, value: Value) -> Option<Value> {
+    let mut members = Map::new(alloc);
+    members
+        .insert(String::from_str(alloc, key).ok()?, value)
+        .ok()?;
+    Some(Value::Object(members))
+}
+
+fn nested_of(alloc: Global, first: &str, second: &str) -> Option<Value> {
+    let inside = object_with(alloc, "b", number_of(second)?)?;
+    let mut elements = Vec::new(alloc);
+    elements.push(number_of(first)?).ok()?;
+    elements.push(inside).ok()?;
+    object_with(alloc, "a", Value::Array(elements))
+}
+
 fn texts_of(alloc: Global, texts: &[&str]) -> Option<Vec<Value>> {
     let mut values = Vec::new(alloc);
     for text in texts {
@@ -577,7 +776,9 @@ fn value_of(alloc: Global, json: Json) -> Option<Value> {
     Some(match json {
         Json::Null => Value::Null,
         Json::False => Value::Bool(false),
-        Json::Number(literal) => Value::Number(Number::parse(literal).ok()?),
+        Json::Number(literal) => number_of(literal)?,
+        Json::Numbers(literals) => Value::Array(numbers_of(alloc, literals)?),
+        Json::Nested(first, second) => nested_of(alloc, first, second)?,
         Json::Text(text) => Value::String(String::from_str(alloc, text).ok()?),
         Json::Texts(texts) => Value::Array(texts_of(alloc, texts)?),
         Json::Keys(keys) => Value::Object(keyed_by(alloc, keys)?),
@@ -586,11 +787,7 @@ fn value_of(alloc: Global, json: Json) -> Option<Value> {
 
 /// The object of one member.
 fn object_of(alloc: Global, key: &str, json: Json) -> Option<Value> {
-    let mut members = Map::new(alloc);
-    members
-        .insert(String::from_str(alloc, key).ok()?, value_of(alloc, json)?)
-        .ok()?;
-    Some(Value::Object(members))
+    object_with(alloc, key, value_of(alloc, json)?)
 }
 
 #[test]
@@ -679,5 +876,55 @@ fn slices_that_are_laid_are_judged(rt: HostRuntime) -> Result<(), Fail> {
         judge(alloc, &object, &empty),
         Err(JudgeError::UnknownKeyword { member: 0 })
     );
+    Ok(())
+}
+
+/// The value that an array of one element is.
+fn array_of(alloc: Global, value: Value) -> Option<Value> {
+    let mut elements = Vec::new(alloc);
+    elements.push(value).ok()?;
+    Some(Value::Array(elements))
+}
+
+/// Arrays in each other, so many, as a value.
+fn nested_arrays(alloc: Global, arrays: usize) -> Option<Value> {
+    let mut value = Value::Array(Vec::new(alloc));
+    for _ in 1..arrays {
+        value = array_of(alloc, value)?;
+    }
+    Some(value)
+}
+
+/// A constant nests at most 128 containers, and so does each element of a list. A document may nest deeper.
+#[test]
+fn constants_nest_at_most_128_containers(rt: HostRuntime) -> Result<(), Fail> {
+    let alloc = rt.alloc();
+    let too_deep = Err(KeywordError::TooDeep { member: 0 });
+    // how many arrays stand in the constant and in the document, and the answer
+    let rows = [
+        (127usize, 127usize, Ok(true)),
+        (128, 128, Ok(true)),
+        (128, 129, Ok(false)),
+        (129, 129, too_deep),
+        (129, 1, too_deep),
+    ];
+    for (arrays, others, answer) in &rows {
+        let document = nested_arrays(alloc, *others).ok_or("memory")?;
+        let constant = nested_arrays(alloc, *arrays).ok_or("memory")?;
+        let keywords = object_with(alloc, "const", constant).ok_or("memory")?;
+        assert_eq!(rt;
+            judge_values(alloc, &keywords, &document),
+            *answer,
+            "{arrays}"
+        );
+        let element = nested_arrays(alloc, *arrays).ok_or("memory")?;
+        let list = array_of(alloc, element).ok_or("memory")?;
+        let keywords = object_with(alloc, "enum", list).ok_or("memory")?;
+        assert_eq!(rt;
+            judge_values(alloc, &keywords, &document),
+            *answer,
+            "{arrays}"
+        );
+    }
     Ok(())
 }

@@ -97,9 +97,9 @@ module _ {X : Type 0} (k d : List ℕ) where
           inr (Ok t, reads, (None, compiled.valid, (Ok u, h, (b, refl, (λ x. (compiled.passes u).0 (is.0 x), λ x. is.1 ((compiled.passes u).1 x))))))
 
       -- where checking takes no memory, the checks need none
-      pub freely : (u : Tree) (v w : Tree) → Stands k u → Said {X = X} d (Ok node) (Ok w) → Stands d v → ChecksFreely u v
+      pub freely : (other : X) (u v w : Tree) → Stands k u → Said {X = X} d (Ok other) (Ok w) → Stands d v → ChecksFreely u v
           → NeedsNoMemory c ⊎ (as_array w ≡ None)
-      freely u v w stands (inl h) there free = absurd cc
-      freely u v w stands (inr read) there (inl never) =
+      freely other u v w stands (inl h) there free = absurd cc
+      freely other u v w stands (inr read) there (inl never) =
           inl (compiled.memory (subst (λ (x : Tree). NeverAsksUnique x) (sym (one_tree k t u reads.0 stands)) never))
-      freely u v w stands (inr read) there (inr none) = inr (ap as_array (one_tree d w v read.0 there) ∙ none)
+      freely other u v w stands (inr read) there (inr none) = inr (ap as_array (one_tree d w v read.0 there) ∙ none)

@@ -73,8 +73,8 @@ bad_is m p h = named_is (λ w. (HasForm w p.1 → ⊥)) p.1 m (Some (keyword.Bad
   where
     go : {F N E D : Type 0} (f : Decided F) (n : Decided N) (e : Decided E) (d : Decided D) → (F → ⊥)
         → by_value f n e d m ≡ fault (keyword.BadKeyword m)
-    go (inl f) n e d no = absurd (no f)
-    go (inr f) n e d no = refl
+    go (inl f) n e d other = absurd (other f)
+    go (inr f) n e d other = refl
 
 bad_pattern_is : (m : ℕ) (p : Pair) → IsBadPattern p → cause p m ≡ fault (keyword.BadPattern m)
 bad_pattern_is m p h = named_is (λ w. IsNoPattern w p.1) p.1 m (Some (keyword.BadPattern m)) (keyword_of p.0) h
@@ -93,10 +93,10 @@ not_literal_is m p h = named_is (λ w. NeedsEngine w p.1) p.1 m (Some (keyword.P
   where
     go : {F N E D : Type 0} (f : Decided F) (n : Decided N) (e : Decided E) (d : Decided D) → F → (N → ⊥) → E
         → by_value f n e d m ≡ fault (keyword.PatternNotLiteral m)
-    go (inl f) (inl n) e d x no y = absurd (no n)
-    go (inl f) (inr n) (inl e) d x no y = refl
-    go (inl f) (inr n) (inr e) d x no y = absurd (e y)
-    go (inr f) n e d x no y = absurd (f x)
+    go (inl f) (inl n) e d x other y = absurd (other n)
+    go (inl f) (inr n) (inl e) d x other y = refl
+    go (inl f) (inr n) (inr e) d x other y = absurd (e y)
+    go (inr f) n e d x other y = absurd (f x)
 
 deep_is : (m : ℕ) (p : Pair) → IsTooDeep p → cause p m ≡ fault (keyword.TooDeep m)
 deep_is m p h = named_is (λ w. HasForm w p.1 × KeepsDeep w p.1) p.1 m (Some (keyword.TooDeep m)) (keyword_of p.0) h
@@ -105,11 +105,11 @@ deep_is m p h = named_is (λ w. HasForm w p.1 × KeepsDeep w p.1) p.1 m (Some (k
   where
     go : {F N E D : Type 0} (f : Decided F) (n : Decided N) (e : Decided E) (d : Decided D) → F → (N → ⊥) → (E → ⊥) → D
         → by_value f n e d m ≡ fault (keyword.TooDeep m)
-    go (inl f) (inl n) e d x no never y = absurd (no n)
-    go (inl f) (inr n) (inl e) d x no never y = absurd (never e)
-    go (inl f) (inr n) (inr e) (inl d) x no never y = refl
-    go (inl f) (inr n) (inr e) (inr d) x no never y = absurd (d y)
-    go (inr f) n e d x no never y = absurd (f x)
+    go (inl f) (inl n) e d x other never y = absurd (other n)
+    go (inl f) (inr n) (inl e) d x other never y = absurd (never e)
+    go (inl f) (inr n) (inr e) (inl d) x other never y = refl
+    go (inl f) (inr n) (inr e) (inr d) x other never y = absurd (d y)
+    go (inr f) n e d x other never y = absurd (f x)
 
 fair_is : (m : ℕ) (p : Pair) → IsFair p → cause p m ≡ None
 fair_is m p h = named_is (λ w. Suits w p.1) p.1 m None (keyword_of p.0) h
@@ -117,11 +117,11 @@ fair_is m p h = named_is (λ w. Suits w p.1) p.1 m None (keyword_of p.0) h
   where
     go : {F N E D : Type 0} (f : Decided F) (n : Decided N) (e : Decided E) (d : Decided D) → F → (N → ⊥) → (E → ⊥) → (D → ⊥)
         → by_value f n e d m ≡ None
-    go (inl f) (inl n) e d x no never shallow = absurd (no n)
-    go (inl f) (inr n) (inl e) d x no never shallow = absurd (never e)
-    go (inl f) (inr n) (inr e) (inl d) x no never shallow = absurd (shallow d)
-    go (inl f) (inr n) (inr e) (inr d) x no never shallow = refl
-    go (inr f) n e d x no never shallow = absurd (f x)
+    go (inl f) (inl n) e d x other never shallow = absurd (other n)
+    go (inl f) (inr n) (inl e) d x other never shallow = absurd (never e)
+    go (inl f) (inr n) (inr e) (inl d) x other never shallow = absurd (shallow d)
+    go (inl f) (inr n) (inr e) (inr d) x other never shallow = refl
+    go (inr f) n e d x other never shallow = absurd (f x)
 
 -- the first fault of pairs, of which the first has number m
 abbrev or_next : Fault → Fault → Fault

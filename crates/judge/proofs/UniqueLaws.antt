@@ -1,5 +1,5 @@
 -- Whether the elements of an array are unique is decided, and equal documents have it alike.
-use Rattle.std.proofs.Common.{◌≡◌, inl, inr, ℕ, zero, suc, ◌<◌, List, [], ◌∷◌, Option, Some, None, arith}
+use Rattle.std.proofs.Common.{inl, inr, ℕ, zero, suc, List, [], ◌∷◌, arith}
 use Rattle.std.specs.Prelude.{IfSome, IsSomeAnd, slice_get}
 use Rattle.std.specs.List.{AllByRecursion}
 use Rattle.json_model.specs.Parts.{as_array, trees_in}
@@ -7,7 +7,7 @@ use Rattle.json_model.specs.Rising.{KeysRise, KeysRiseInElements}
 use Rattle.json_model.specs.Same.{IsUnique, Same, SameElements}
 use Rattle.json_model.specs.Tree.{Tree, scalar, array, object, Elements, no_elements, element}
 use Rattle.json_semantics.proofs.EquivalenceLaws.{same_chain, same_turned}
-use Rattle.judge.proofs.Decided.{Decided, decided_all, decided_both, decided_not}
+use Rattle.judge.proofs.Decided.{Decided, decided_all, decided_not}
 use Rattle.judge.proofs.DecidedSame.{decided_same}
 
 -- ---- a list with one element more

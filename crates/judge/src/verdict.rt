@@ -20,7 +20,7 @@ use std::alloc::Global;
 /// or not. Memory is taken for the nesting, for the names that `required` lists, for the values of `enum` and `const`, for a pattern,
 /// and for an array under `uniqueItems` with true. Where no container of either stands inside another, no member is `const` or
 /// `pattern`, and no array is under `uniqueItems` with true, want of memory is never answered, and neither where the keywords alone
-/// are so and are refused.
+/// nest so, without `const` and `pattern`, and are refused.
 pub fn judge(alloc: Global, keywords: &[u8], document: &[u8]) -> Result<bool, JudgeError>
     ensures right { (result ≡ Err JudgeError.OutOfMemory) ⊎ Right keywords.now document.now result }
     ensures refused { (t : Tree) → Stands keywords.now t → nest t ≤ 1 → IsLean t

@@ -1,5 +1,5 @@
 use Rattle.jsonb.specs.Nodes.{node_tree}
-use Rattle.judge.proofs.Answering.{keywords_refused, keyword_refused, keyword_refused_with_memory, not_refused, document_refused, verdict}
+use Rattle.judge.proofs.Answering.{keywords_refused, keyword_refused, keyword_refused_with_memory, not_refused, document_refused, freely, verdict}
 use Rattle.judge.proofs.verdict.judge.Goals as goal
 
 pub returns-in-Err-clause-right : goal.returns-in-Err-clause-right
@@ -25,7 +25,7 @@ returns-in-Ok-check-clause-right c =
 
 pub returns-in-Err-compile-clause-free : goal.returns-in-Err-compile-clause-free
 returns-in-Err-compile-clause-free c =
-    λ t u stands le lean _ _. keyword_refused_with_memory c.args.keywords.now c.args.document.now c.in-Ok.root
+    λ t u stands le lean _ _ _. keyword_refused_with_memory c.args.keywords.now c.args.document.now c.in-Ok.root
     (node_tree c.in-Ok.root) c.in-Ok.ensures.read c.in-Err-compile.error c.of_keyword.result c.of_keyword.ensures
     c.in-Err-compile.ensures.free t stands le lean
 
@@ -39,3 +39,16 @@ pub returns-in-Err-root-clause-refused : goal.returns-in-Err-root-clause-refused
 returns-in-Err-root-clause-refused c =
     λ t stands le lean never _. not_refused c.args.keywords.now c.args.document.now c.in-Ok.root
     (node_tree c.in-Ok.root) c.in-Ok.ensures.read c.in-Ok-compile.checks c.in-Ok-compile.ensures.right t stands never
+
+pub returns-clause-refused : goal.returns-clause-refused
+returns-clause-refused c =
+    λ t stands le lean never _. not_refused c.args.keywords.now c.args.document.now c.in-Ok.root
+    (node_tree c.in-Ok.root) c.in-Ok.ensures.read c.in-Ok-compile.checks c.in-Ok-compile.ensures.right t stands never
+
+pub returns-clause-free : goal.returns-clause-free
+returns-clause-free c =
+    λ t u stands le lean there flat free _.
+    let never = freely c.args.keywords.now c.args.document.now c.in-Ok.root (node_tree c.in-Ok.root) c.in-Ok.ensures.read
+    c.in-Ok-compile.checks c.in-Ok-compile.ensures.right c.in-Ok-root.node t u (node_tree c.in-Ok-root.node) stands c.in-Ok-root.ensures.read there free in
+    let told = c.in-Err-check.ensures.ok never in
+    cc

@@ -34,8 +34,8 @@ returns-in_ok-read_pattern-in-Pattern-clause-ok g c =
     let free = rw c.in-Pattern.is at c.requires in
     rw c.in-Pattern.is (adds_pattern c.args.self.now v kept free (pattern_suits v kept is) (pattern_is v kept is))
 
-pub returns-in_ok-read_truth-in-UniqueItems-clause-ok : goal.returns-in_ok-read_truth-in-UniqueItems-clause-ok
-returns-in_ok-read_truth-in-UniqueItems-clause-ok g c =
+pub returns-in_ok-self-in-UniqueItems-clause-ok : goal.returns-in_ok-self-in-UniqueItems-clause-ok
+returns-in_ok-self-in-UniqueItems-clause-ok g c =
     let free = rw c.in-UniqueItems.is at c.requires in
-    rw c.in-UniqueItems.is (adds_unique c.args.self.now (g.N.HasTree.tree c.args.value.now) c.in_ok-read_truth-in-UniqueItems.field-0 free
-    c.in_ok-read_truth-in-UniqueItems.ensures)
+    rw c.in-UniqueItems.is (adds_unique c.args.self.now (g.N.HasTree.tree c.args.value.now) c.in_ok-self-in-UniqueItems.field-0 free
+    c.in_ok-self-in-UniqueItems.ensures)

@@ -10,3 +10,5 @@ mod layout;
 mod nodes;
 #[cfg(test)]
 mod numbers;
+#[cfg(test)]
+mod steps;

@@ -7,7 +7,7 @@ use Rattle.std.proofs.lemmas.Int.{ints}
 use Rattle.std.proofs.lemmas.Nat.{pow-add}
 use Rattle.json_model.specs.Decimal.{Decimal as Written, IsSameValue}
 use Rattle.json_exact.specs.DecimalGroups.{IsScaled}
-use Rattle.json_exact.specs.DecimalInverseLaws.{ten_pos}
+use Rattle.json_exact.specs.inner.DecimalInverseLaws.{ten_pos}
 use Rattle.json_exact.specs.Exact.{IsWorth, parts}
 use Rattle.json_exact.proofs.SignLaws.{abs_times, sign_times}
 use Rattle.json_exact.proofs.WorthLaws.{parts_pos}

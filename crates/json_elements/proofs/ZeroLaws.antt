@@ -5,7 +5,7 @@ use Rattle.std.proofs.Math.Nat.{eq_of_mul-eq-mul_right, mul-mod_left, mul-div_ca
 use Rattle.std.proofs.lemmas.Bool.{ne_eqb, eq-eqb}
 use Rattle.std.proofs.lemmas.Nat.{pow-add, div-add-mod'}
 use native.Mathlib.Numerals.{unary_clauses}
-use Rattle.json_exact.specs.DecimalInverseLaws.{ten_pos}
+use Rattle.json_exact.specs.inner.DecimalInverseLaws.{ten_pos}
 use Rattle.json_elements.specs.Number.{powers_in, zeros}
 
 -- n is m, which does not end in 0, and z zeros behind it

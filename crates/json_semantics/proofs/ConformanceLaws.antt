@@ -9,7 +9,7 @@ use Rattle.json_model.specs.Parts.{lookup}
 use Rattle.json_model.specs.Tree.{Tree, boolean, null, number, scalar}
 use Rattle.json_exact.specs.Literal.{IsLiteral}
 use Rattle.json_exact.specs.Parsed.{IsNumber, IsNoLiteral, IsTooWide, IsOutOfRange}
-use Rattle.json_exact.specs.Reading.{Parts, literal_of, with_whole, with_fraction, with_exponent, minus_of, whole_of, is_whole_part, fraction_of, some_digits_of, exponent_of}
+use Rattle.json_exact.specs.inner.Reading.{Parts, literal_of, with_whole, with_fraction, with_exponent, minus_of, whole_of, is_whole_part, fraction_of, some_digits_of, exponent_of}
 use Rattle.json_exact.specs.Trees.{Pairs, tree}
 use Rattle.json_exact.specs.declared.number_error.NumberError.{NumberError}
 use Rattle.json_exact.specs.declared.number_error.NumberError.TheVariants.{NotANumber, TooWide, OutOfRange}

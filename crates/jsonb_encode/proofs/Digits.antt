@@ -5,7 +5,7 @@ use Rattle.std.proofs.Math.Nat.{pow-suc, mul-div_cancel, mul-mod_left, div-div-e
 use Rattle.std.proofs.lemmas.Nat.{pow-add, div-add-mod', div-mul-add, mod-mul-add, div_below, mod_below}
 use Rattle.std.proofs.lemmas.Bool.{lt-ltb, ne_eqb, cases_lt}
 use Rattle.json_exact.specs.Digits.{spread, count_of}
-use Rattle.json_exact.specs.LeadingDigitsLaws.{power_pos, count_is}
+use Rattle.json_exact.specs.inner.LeadingDigitsLaws.{power_pos, count_is}
 use Rattle.jsonb_layout.specs.Numeric.{joined, all_below}
 use Rattle.jsonb_encode.specs.Number.{all_zero, trimmed}
 

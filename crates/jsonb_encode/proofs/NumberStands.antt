@@ -10,11 +10,11 @@ use Rattle.std.proofs.lemmas.Nat.{pow-add, mod_below, le-div}
 use Rattle.json_model.specs.Decimal.{Decimal, HasNarrowDigits, IsNarrow}
 use Rattle.json_exact.specs.Digits.{spread, count_of}
 use Rattle.json_exact.specs.Parsed.{IsInRange}
-use Rattle.json_exact.specs.DecimalInverseLaws.{ten_pos}
-use Rattle.json_exact.specs.LeadingDigitsLaws.{count_is, count_none}
-use Rattle.json_exact.specs.NumberInverseLaws.{sign_abs}
+use Rattle.json_exact.specs.inner.DecimalInverseLaws.{ten_pos}
+use Rattle.json_exact.specs.inner.LeadingDigitsLaws.{count_is, count_none}
+use Rattle.json_exact.specs.inner.NumberInverseLaws.{sign_abs}
 use Rattle.json_exact.proofs.DigitLaws.{power_mono, none_of}
-use Rattle.json_exact.proofs.GroupLaws.{fours}
+use Rattle.json_model.proofs.DecimalLaws.{fours}
 use Rattle.json_exact.proofs.NarrowLaws.{narrow_more, narrow_back, wide_group}
 use Rattle.jsonb_layout.specs.Numeric.{IsVarlena, short_lift, long_lift, IsShort, IsLong, joined, are_groups, IsValue, Numeric}
 use Rattle.jsonb_layout.specs.declared.header.Header.{Header}

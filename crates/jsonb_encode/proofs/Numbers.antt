@@ -6,7 +6,7 @@ use Rattle.json_model.specs.Decimal.{Decimal, IsNarrow}
 use Rattle.json_model.specs.Tree.{scalar, number}
 use Rattle.json_exact.specs.Exact.{IsWorth, IsWithinLimits, limit, parts}
 use Rattle.json_exact.specs.Parsed.{IsInRange}
-use Rattle.json_exact.specs.DecimalInverseLaws.{ten_pos}
+use Rattle.json_exact.specs.inner.DecimalInverseLaws.{ten_pos}
 use Rattle.json_exact.proofs.SignLaws.{abs_times}
 use Rattle.json_exact.proofs.WorthLaws.{narrow_as_written}
 use Rattle.jsonb_layout.specs.Stands.{padding}

@@ -10,7 +10,7 @@ use Rattle.json_model.specs.Decimal.{Decimal}
 use Rattle.json_exact.specs.DecimalGroups.{group, IsGreatestPlace, IsLeastPlace}
 use Rattle.json_exact.specs.Digits.{spread}
 use Rattle.json_exact.specs.Exact.{IsWorth}
-use Rattle.json_exact.proofs.GroupLaws.{fours}
+use Rattle.json_model.proofs.DecimalLaws.{fours}
 use Rattle.json_exact.proofs.GroupPlaceLaws.{group_lifted, group_under}
 use Rattle.json_exact.proofs.WorthLaws.{worth_in_parts}
 use Rattle.jsonb_encode.specs.Number.{fraction_groups, magnitude, groups}

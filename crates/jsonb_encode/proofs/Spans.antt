@@ -11,13 +11,13 @@ use Rattle.json_model.specs.Decimal.{Decimal, HasNarrowDigits}
 use Rattle.json_exact.specs.DecimalGroups.{group, IsGreatestPlace, IsLeastPlace}
 use Rattle.json_exact.specs.Digits.{spread, count_of}
 use Rattle.json_exact.specs.Exact.{IsWorth, IsWithinLimits, limit, parts}
-use Rattle.json_exact.specs.LeadingDigitsLaws.{count_none}
+use Rattle.json_exact.specs.inner.LeadingDigitsLaws.{count_none}
 use Rattle.json_exact.proofs.DigitLaws.{power_mono, none_of}
-use Rattle.json_exact.proofs.GroupLaws.{fours}
+use Rattle.json_model.proofs.DecimalLaws.{fours}
 use Rattle.json_exact.proofs.NarrowLaws.{narrow_more, narrow_back, wide_group}
 use Rattle.json_exact.proofs.SignLaws.{sign_times}
 use Rattle.json_exact.proofs.WorthLaws.{parts_pos}
-use Rattle.json_exact.specs.DecimalInverseLaws.{ten_pos}
+use Rattle.json_exact.specs.inner.DecimalInverseLaws.{ten_pos}
 use Rattle.jsonb_encode.specs.Number.{fraction_groups, magnitude, groups, group_count, lift, trimmed, header, head, varlena, numeric, fits}
 use Rattle.jsonb_encode.specs.declared.number_form.NumericForm.{NumericForm}
 use Rattle.jsonb_encode.specs.declared.number_form.NumericForm.TheVariants.{Short, Long, ShortVarlena}

@@ -8,6 +8,7 @@ use Rattle.std.proofs.lemmas.Bool.{le-leb, leb-true, lt-leb, leb-false, lt-ltb, 
 use Rattle.std.proofs.lemmas.List.{take_at, drop_at, take-append-drop, length-append, length-drop, drop-drop, length-take-le}
 use Rattle.std.proofs.lemmas.Nat.{le_bytes_2, le_bytes_4, from_le_bytes-to_le_bytes_2, from_le_bytes-to_le_bytes_4, div-add-mod'}
 use Rattle.json_model.specs.Decimal.{Decimal, signed}
+use Rattle.json_model.proofs.DecimalLaws.{abs_signed}
 use Rattle.jsonb_layout.specs.Numeric.{IsVarlena, bit, short_lift, long_lift, IsShort, IsLong, joined, all_below, are_groups, IsValue, Numeric}
 use Rattle.jsonb_layout.specs.declared.header.Header.{Header}
 use Rattle.jsonb_layout.specs.Options.{◌>>=◌, only_if}

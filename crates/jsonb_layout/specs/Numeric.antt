@@ -1,10 +1,10 @@
 -- The bytes of a number: a varlena header (PostgreSQL, `varatt.h`), a numeric header and groups of four decimal digits
 -- (`numeric.c`: `NumericShort`, `NumericLong`). All words are little-endian. That no digit but 0 stands past the written
 -- fraction digits, and that 0 has one shape, is this project's own.
-use Rattle.std.specs.Prelude.{◌≡◌, ℕ, ◌+◌, ◌-◌, ◌*◌, ◌^◌, ◌<◌, Bool, true, false, List, [], ◌∷◌, ◌++◌, length, get_or, ℤ, pos, neg_ℤ, nat_abs, ◌⊎◌, if◌then◌else◌, nat_lt, IsTrue, ◌&&◌}
+use Rattle.std.specs.Prelude.{◌≡◌, ℕ, ◌+◌, ◌-◌, ◌*◌, ◌^◌, ◌<◌, Bool, true, false, List, [], ◌∷◌, ◌++◌, length, get_or, nat_abs, ◌⊎◌, if◌then◌else◌, nat_lt, IsTrue, ◌&&◌}
 use Rattle.std.specs.List.{flat_map}
 use Rattle.std.specs.Int.{w16, w32, to_le_bytes}
-use Rattle.json_model.specs.Decimal.{Decimal}
+use Rattle.json_model.specs.Decimal.{Decimal, signed}
 use Rattle.jsonb_layout.specs.declared.header.Header.{Header}
 
 -- four bytes, or one; the size counts the header too

@@ -5,4 +5,5 @@ pub mod SpanLaws
 pub mod Widened
 pub mod PlainTokens
 pub mod ItemLaws
+pub mod OrderLaws
 pub mod BoolLaws

@@ -15,3 +15,4 @@ pub mod BackReferences
 pub mod Grammar
 pub mod Spans
 pub mod Members
+pub mod Ordered

@@ -12,7 +12,8 @@
 //! | `a{2,1}`, `(?=a)*`, `[z-a]`, `]` | no |
 //!
 //! It departs from ECMA-262 in three points: a backslash may stand before every character that is not alphanumeric, property
-//! names are checked for their shape alone, and names of groups have the letters of Unicode's property Alphabetic.
+//! names are checked for their shape alone, and names of groups have the letters of Unicode's property Alphabetic and the
+//! digits of its categories Nd, Nl and No.
 //!
 //! The text has fewer than 2^30 bytes. It is gone over from left to right, the digits of a count a few times. The call takes
 //! memory for the tree; [`OutOfMemory`] says that memory could not be had.

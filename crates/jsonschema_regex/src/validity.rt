@@ -12,7 +12,8 @@ use std::alloc::Global;
 /// exactly where the grammar has a tree for it. For example `(?<year>\d{4})` is one, and `(?<year>\d{4}` and `\d{4,2}` are none.
 ///
 /// The grammar departs from ECMA-262 in three points: a backslash may stand before every character that is not alphanumeric,
-/// property names are checked for their shape alone, and names of groups have the letters of Unicode's property Alphabetic.
+/// property names are checked for their shape alone, and names of groups have the letters of Unicode's property Alphabetic and
+/// the digits of its categories Nd, Nl and No.
 ///
 /// It goes over the text from left to right, over the digits of a count a few times, and takes memory for its tree.
 pub fn is_valid_ecma_regex(alloc: Global, pattern: &str) -> Result<bool, OutOfMemory>

@@ -2,7 +2,7 @@
 
 use crate::class_item::ClassEscape;
 
-/// The name of a node of a pattern. A pattern has fewer than 2^32 nodes.
+/// The name of a node of a pattern.
 #[derive(Debug, Clone, Copy, PartialEq, Eq)]
 pub struct NodeId(pub u32);
 

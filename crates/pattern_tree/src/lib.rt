@@ -18,10 +18,11 @@
 //! the groups that are open.
 //!
 //! It keeps a map from each name to the place of its last group, and finds the innermost open group around a place by halves.
-//! So, by review, n characters with k names and groups cost some n steps, and some log2 k for each name and each back-reference
-//! by name.
+//! So, by review, n characters with k names and groups cost some n steps, and some log2 k comparisons of names for each name and
+//! each back-reference by name. No comparison is longer than the name that is looked up, so these are at most some n times log2 k
+//! steps in all.
 //!
-//! [`laws`] says that a text has at most one tree.
+//! [`laws`] says that a text has at most one tree, and that the counts and ranges in it go from low to high.
 #![tactic(auto)]
 
 mod class;

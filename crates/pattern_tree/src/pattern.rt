@@ -48,7 +48,7 @@ impl Pattern {
         self.nodes[id.0 as usize].span
     }
 
-    /// What a node is. Its parts are nodes too, with lower numbers, and stand in the source where it does.
+    /// What a node is. Its parts are nodes too, with lower numbers, and stand in the source within its place.
     pub fn form(&self, id: NodeId) -> Form
         requires { HasNode self.now id }
         ensures form { IsForm self.now id result }

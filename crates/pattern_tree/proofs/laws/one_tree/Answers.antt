@@ -2,4 +2,4 @@ use Rattle.pattern_tree.proofs.Leads.{one_spelled}
 use Rattle.pattern_tree.proofs.laws.one_tree.Goals as goal
 
 pub returns : goal.returns
-returns c = λ wide x t u g h. one_spelled wide x t u g.spells h.spells
+returns c = one_spelled

@@ -15,9 +15,6 @@ pub mod BackReferences
 pub mod Grammar
 pub mod Spans
 pub mod Members
-<<<<<<< HEAD
 pub mod Matches
 pub mod Literals
-=======
 pub mod Ordered
->>>>>>> c20c07d4d7da73d0a22c7d420125ae809c4ff274

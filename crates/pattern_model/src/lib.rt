@@ -47,14 +47,10 @@
 //!
 //! Several terms are joined from the left by `sequence`, several alternatives by `either`; an alternative without terms is
 //! `empty`. `Members` says which code points a class has, `Spans` where tokens and the items of classes stand, in bytes, and
-<<<<<<< ours
 //! `Matches` which parts of a text a tree matches. `Literals` has the patterns that need no engine, as `^x-` and `^(a|b)$`, and the
-//! texts that each one hits.
+//! texts that each one hits. `Ordered` says that counts and ranges go from low to high.
 //!
-//! In `proofs/`, `TokenTails` says that what follows a token is a tail of the text, and `SpanLaws` and `ItemLaws` where it stands;
-//! `LiteralTrees` has the tree of each literal pattern, and `LiteralMatches` that it matches where the analysis hits.
-=======
-//! `Ordered` that counts and ranges go from low to high. In `proofs/`, `TokenTails` says that what follows a token is a tail of
-//! the text, `SpanLaws` and `ItemLaws` where it stands, and `OrderLaws` that each tree of a text is ordered.
->>>>>>> theirs
+//! In `proofs/`, `TokenTails` says that what follows a token is a tail of the text, `SpanLaws` and `ItemLaws` where it stands, and
+//! `OrderLaws` that each tree of a text is ordered; `LiteralTrees` has the tree of each literal pattern, and `LiteralMatches` that
+//! it matches where the analysis hits.
 #![tactic(auto)]

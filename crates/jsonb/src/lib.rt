@@ -6,15 +6,10 @@
 //! `Object` has its members in key order, by [`JsonbMembers`]; `Array` its elements, by [`Cursor`]; `JsonNumber` its exact
 //! value and written fraction digits. An iterator goes over each entry once, at any depth; `members` passes over the keys
 //! once more, to find the values behind them. The value under a key is found by `get_named`, by `get` with a prepared
-<<<<<<< ours
 //! [`JsonbKey`], and by [`JsonbObject::get_counted`], which counts the entry words that it reads in [`Steps`]: of n members at
 //! most 33 p + 34, for a p with 2^p at most 2 n + 1, as 364 of a thousand. The other two are that call, with steps that are not
-//! kept. None of a node's calls takes memory, but `as_str` of a number. For example the bytes, in hex,
-=======
-//! [`JsonbKey`], and by [`JsonbObject::get_counted`], which counts the entry words that it reads in [`Steps`]. None of a
-//! node's calls takes memory, but `as_str` of a number and `is_unique` of an array. [`element_hash`] is the number of a value, by
-//! which equal elements are found. For example the bytes, in hex,
->>>>>>> theirs
+//! kept. None of a node's calls takes memory, but `as_str` of a number, `is_unique` of an array, and those that make a value.
+//! [`element_hash`] is the number of a value, by which equal elements are found. For example the bytes, in hex,
 //!
 //! ```text
 //! 01000050 08000090 20000000 8080 0100

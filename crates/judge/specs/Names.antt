@@ -1,5 +1,4 @@
--- The keywords that are built, by their names: JSON Schema 2020-12, validation, sections 6.1 to 6.5. And the names that are
--- still to come.
+-- The keywords by their names: JSON Schema 2020-12, validation, sections 6.1 to 6.5.
 use Rattle.std.specs.Prelude.{ℕ, List, [], ◌∷◌, Option, codes}
 use Rattle.json_model.specs.Parts.{lookup}
 use Rattle.json_semantics.specs.declared.numeric_check.BoundOp.TheVariants.{Lt, Lte, Gt, Gte}
@@ -26,6 +25,6 @@ keywords =
     (codes "pattern", Pattern) ∷
     (codes "required", Required) ∷ []
 
--- the keyword of a name, if there is one that is built
+-- the keyword of a name, if there is one
 abbrev pub keyword_of : List ℕ → Option Keyword
 keyword_of name = lookup name keywords

@@ -17,7 +17,7 @@ pub(crate) enum Measure {
     Members,
 }
 
-/// A keyword that is built. Keywords that ask alike are one variant.
+/// A keyword. Keywords that ask alike are one variant.
 #[derive(Clone, Copy, Debug, PartialEq, Eq)]
 pub(crate) enum Keyword {
     /// The document is of a type: `type`.
@@ -41,7 +41,7 @@ pub(crate) enum Keyword {
 }
 
 impl Keyword {
-    /// The keyword of a name, if there is one that is built.
+    /// The keyword of a name, if there is one.
     pub(crate) fn from_name(name: &str) -> Option<Keyword>
         ensures { result ≡ keyword_of name.now }
     {

@@ -4,13 +4,13 @@
 //! [`judge`] answers for two slices. For example the keywords `01000020 04000080 07000000 74797065 696e7465676572`, in hex,
 //! are `{"type":"integer"}`, and the document `01000050 08000090 20000000 8080 0100` is 1.0: it is valid, since 1.0 is an
 //! integer. The keywords are read whole, and where they have no fault the document is too, whether a keyword looks at a part
-//! or not. What is no JSON tree, no keyword object or not built yet is refused by a [`JudgeError`].
+//! or not. What is no JSON tree or no keyword object is refused by a [`JudgeError`].
 //!
 //! [`judge_values`] answers for two `json_exact::Value`s. Both stand on [`Checks`], a keyword object that is compiled once and
 //! checks many documents, whatever holds them: [`Checks::compile`] and [`Checks::check`] take each `json_traits::Node`. Why a
 //! keyword object is refused, and mostly where, is a [`KeywordError`]. Nodes of one tree get one verdict ([`laws::one_verdict`]).
 //!
-//! Built are `type`, `enum`, `const`, the four bounds of numbers, the least and greatest counts of code points, elements and
+//! The keywords are `type`, `enum`, `const`, the four bounds of numbers, the least and greatest counts of code points, elements and
 //! members, `uniqueItems`, `pattern` and `required`: all sixteen. A `pattern` is taken where it is literal, as `^x-` and `^(a|b)$`:
 //! `jsonschema_regex` says which those are.
 //!

@@ -43,7 +43,8 @@ pub enum KeywordError {
     /// an element.
     #[error("TooDeep")]
     TooDeep { member: usize },
-    /// Memory for the names that `required` lists, for the values of `enum` or `const`, or for a pattern is wanting.
+    /// Memory for the names that `required` lists, for the values of `enum` or `const`, or for a pattern is wanting. `judge_values`
+    /// answers it for an array under `uniqueItems` with true too.
     #[error("OutOfMemory")]
     OutOfMemory,
 }
@@ -77,8 +78,8 @@ pub enum JudgeError {
     /// The document's bytes are no JSON tree.
     #[error("Document")]
     Document(Fault),
-    /// Memory for the nesting of a slice, for the names that `required` lists, for the values of `enum` or `const`, or for a
-    /// pattern is wanting.
+    /// Memory for the nesting of a slice, for the names that `required` lists, for the values of `enum` or `const`, for a pattern, or
+    /// for an array under `uniqueItems` with true is wanting.
     #[error("OutOfMemory")]
     OutOfMemory,
 }

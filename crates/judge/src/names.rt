@@ -12,7 +12,7 @@ use json_traits::{Array, Node};
 use std::alloc::Global;
 use std::collections::BTreeSet;
 
-/// The names that the value of `required` lists, each once, in key order. It takes memory for copies of them, and for a set of
+/// The names that the value of `required` lists, each once; by review, in key order. It takes memory for copies of them, and for a set of
 /// them while it looks for one that stands twice. Want of memory comes of a list alone.
 pub(crate) fn read_names<'a, N: Node<'a>>(
     alloc: Global,

@@ -132,6 +132,8 @@ fn values_are_equal_by_value(rt: HostRuntime) -> Result<(), Fail> {
     let under_a = object_of(rt.alloc(), "a", Value::Null).ok_or("memory")?;
     let under_b = object_of(rt.alloc(), "b", Value::Null).ok_or("memory")?;
     assert!(rt; equal(&one, &same));
+    let copy = one.clone_in(rt.alloc())?;
+    assert!(rt; ValueNode::new(&same).equals_value(&copy));
     assert!(rt; !equal(&one, &other));
     assert!(rt; !equal(&text, &number));
     assert!(rt; !equal(&Value::Null, &Value::Bool(false)));

@@ -821,6 +821,10 @@ fn one_keyword_object_checks_each_node(rt: HostRuntime) -> Result<(), Fail> {
     let Ok(alone) = Checks::of_member(alloc, "maximum", &ValueNode::new(&limit), 0) else {
         panic!(rt; "a keyword is refused");
     };
+    let empty = decode_hex(alloc, "00000020")?;
+    let Ok(nothing) = Checks::compile(alloc, &Jsonb::root(alloc, &empty)?) else {
+        panic!(rt; "the empty object is refused");
+    };
     let rows = [
         ("01000050080000902000000080800100", "1.0", true),
         ("010000500a00009028000000808001008813", "1.5", false),
@@ -828,6 +832,7 @@ fn one_keyword_object_checks_each_node(rt: HostRuntime) -> Result<(), Fail> {
     for (slice, literal, answer) in &rows {
         let bytes = decode_hex(alloc, slice)?;
         let node = Jsonb::root(alloc, &bytes)?;
+        assert_eq!(rt; nothing.check(alloc, &node), Ok(true), "at {literal}");
         let value = value_of(alloc, Json::Number(literal)).ok_or("a number")?;
         for checks in &[&checks, &alone] {
             assert_eq!(rt; checks.check(alloc, &node), Ok(*answer), "at {literal}");

@@ -1,6 +1,6 @@
 //! Look-ups in objects of many members, and their steps.
 
-ghost use Rattle.std.specs.Prelude.{◌≤◌, ◌+◌, ◌*◌, ◌<◌, ◌^◌, length};
+ghost use Rattle.std.specs.Prelude.{◌≡◌, ◌≤◌, ◌+◌, ◌*◌, ◌<◌, ◌^◌, length};
 ghost use Rattle.json_model.specs.Parts.{pairs_of};
 ghost use Rattle.jsonb.specs.Nodes.{object_tree};
 
@@ -24,6 +24,28 @@ fn text_in_few_steps<'a, L: Ledger>(
     ensures { steps.new ≤ steps.old + (33 * halvings + 34) }
 {
     object.get_counted(key.as_bytes(), steps)?.as_string()
+}
+
+/// Whether each of the keys gives itself, and `k` and `l0` give nothing. The steps are those of all look-ups.
+fn gives_each_key<'a, L: Ledger>(
+    object: &JsonbObject<'a>,
+    keys: &[String],
+    halvings: u32,
+    blank: Blank,
+) -> bool
+    requires name { blank.name ≡ L.name }
+    requires parts { blank.parts ≡ L.parts }
+    requires some { 0 < blank.parts }
+    requires few { length (pairs_of (object_tree object.now)) < 2 ^ halvings }
+{
+    let mut steps = Steps::<L>::new(blank);
+    for key in keys {
+        if text_in_few_steps(object, key, halvings, &mut steps) != Some(key.as_str()) {
+            return false;
+        }
+    }
+    text_in_few_steps(object, "k", halvings, &mut steps).is_none()
+        && text_in_few_steps(object, "l0", halvings, &mut steps).is_none()
 }
 
 /// The bytes of the object whose members are the keys, each with itself for its value. Each 32nd entry word has the sum of the
@@ -87,16 +109,11 @@ fn keys_are_found_in_few_steps(rt: HostRuntime) -> Result<(), Fail> {
         }
         let bytes = keys_as_bytes(alloc, &keys).ok_or("memory")?;
         let object = Jsonb::root(alloc, &bytes)?.as_object().ok_or("an object")?;
-        if object.len() >= 2usize.pow(halvings) {
-            return Err("too many".into());
+        if object.len() >= 2usize.checked_pow(halvings).ok_or("too high")? {
+            panic!(rt; "too many");
         }
-        let mut steps = Steps::<Brand>::new(Blank::new(1));
-        for key in &keys {
-            let text = text_in_few_steps(&object, key, halvings, &mut steps);
-            assert_eq!(rt; text, Some(key.as_str()), "at {key}");
-        }
-        assert!(rt; text_in_few_steps(&object, "k", halvings, &mut steps).is_none());
-        assert!(rt; text_in_few_steps(&object, "l0", halvings, &mut steps).is_none());
+        let gives = gives_each_key::<Brand>(&object, &keys, halvings, Blank::new(1));
+        assert!(rt; gives, "{count} members");
     }
     Ok(())
 }

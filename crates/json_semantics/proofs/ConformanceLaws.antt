@@ -163,10 +163,6 @@ tested : (t : Tree) (o : Option Rule) (r : Rule) (b : Bool) → o ≡ Some r →
 tested t None r b e h = cc
 tested t (Some q) r b e h = let same : q ≡ r = cc in subst (λ (x : Rule). IsTrue b ↔ Obeys t x) same h
 
--- a test of what is one refusal
-pub told : (t : Tree) (e f : ConformanceError) (b : Bool) → e ≡ f → Tests t (broken_rule f) b → Tests t (broken_rule e) b
-told t e f b same h = subst (λ (x : ConformanceError). Tests t (broken_rule x) b) (sym same) h
-
 -- what names the first broken rule
 named_by : (t : Tree) (o : Option Rule) (r : Rule) → o ≡ Some r → IsFirstBroken t r → MatchOption o ⊤ (IsFirstBroken t)
 named_by t None r e h = tt

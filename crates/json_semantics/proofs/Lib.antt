@@ -2,5 +2,4 @@ pub mod ValueLaws
 pub mod TextLaws
 pub mod EquivalenceLaws
 pub mod IdentityLaws
-mod UniqueLaws
 mod ConformanceLaws

@@ -10,7 +10,6 @@
 mod error;
 mod rules;
 mod sample;
-mod unique;
 
 pub use error::ConformanceError;
 pub use rules::assert_conformance;

@@ -1,16 +1,14 @@
 -- When a tree is the same as one of a kind.
-use Rattle.std.proofs.Common.{arith, ◌≡◌, ◌+◌, ◌≤◌, ◌<◌, ℕ, ℤ, Bool, true, false, List, [], ◌∷◌, Some, None, drop, length, map, get_or, refl, sym, ap, subst, suc, ◌∙◌}
+use Rattle.std.proofs.Common.{arith, ◌≡◌, ◌+◌, ◌≤◌, ◌<◌, ℕ, ℤ, Bool, List, [], ◌∷◌, Some, drop, length, map, get_or, refl, sym, ap, subst, suc, ◌∙◌}
 use Rattle.std.specs.Prelude.{IsTrue, ◌↔◌}
 use Rattle.std.specs.Ordering.{int_eq}
-use Rattle.std.specs.Str.{bytes_eq}
 use Rattle.std.proofs.lemmas.Bool.Decides.{Decides-int_eq}
 use Rattle.std.proofs.lemmas.List.{drop_all, length-map}
 use Rattle.std.proofs.Math.ListN.{get_or-map}
-use Rattle.std.proofs.lemmas.Slice.Eq.{bytes_eq-Decides}
 use Rattle.json_model.specs.Decimal.{Decimal as Written, IsSameValue}
-use Rattle.json_model.specs.Parts.{as_boolean, as_number, as_string, elements_from, elements_of, if_array, if_object, is_null, members_from, pairs_of}
+use Rattle.json_model.specs.Parts.{elements_from, elements_of, if_array, if_object, members_from, pairs_of}
 use Rattle.json_model.specs.Same.{Same, SameElements}
-use Rattle.json_model.specs.Tree.{Tree, null, boolean, number, string, scalar, array, object, Elements}
+use Rattle.json_model.specs.Tree.{Tree, array, object, Elements}
 use Rattle.json_exact.specs.Exact.{IsWorth}
 use Rattle.json_exact.specs.Trees.{tree as value_tree}
 use Rattle.json_exact.specs.declared.value.Value.{Value}

@@ -1,5 +1,5 @@
 -- The trees of values that are borrowed or owned, and of values that are made where they are asked for. This project's own.
-use Rattle.std.specs.Prelude.{Option, Some, None, Result, Ok, Err, ⊤}
+use Rattle.std.specs.Prelude.{Result, Ok, Err, ⊤}
 use Rattle.json_model.specs.Tree.{Tree}
 use Rattle.json_exact.specs.Trees.{tree as value_tree}
 use Rattle.json_traits.specs.declared.value_cow.ValueCow.{ValueCow}

@@ -31,9 +31,21 @@ module _ {N : Type 0} where
   waiting_node (Deferred node None) = Some node
   waiting_node (Deferred node (Some c)) = None
 
-  -- what was asked for is there afterwards; what was there, and an instance that gave none, is as before
+  -- the instance with a value in its cell, if the cell was empty
+  abbrev pub filled_with : LazyInstance N → ValueCow → LazyInstance N
+  filled_with (Deferred node None) c = Deferred node (Some c)
+  filled_with (Ready d) c = Ready d
+  filled_with (Deferred node (Some d)) c = Deferred node (Some d)
+
+  -- what was asked for is there afterwards, in the cell if that was empty; an instance that gave none is as before
   abbrev pub IsKept : LazyInstance N → LazyInstance N → Result (Bor ValueCow) ValueError → Type 0
-  IsKept old new r = IfOk r (λ c. held new ≡ Some c.now) × OnErr r (new ≡ old) × (IsSome (held old) → new ≡ old)
+  IsKept old new r = IfOk r (λ c. (held new ≡ Some c.now) × (new ≡ filled_with old c.now)) × OnErr r (new ≡ old)
+
+  -- no value is there, and the node hands out one that stands in memory
+  abbrev pub Borrows : {V : Type 0} → (N → Option V) → LazyInstance N → Type 0
+  Borrows value_of (Deferred node None) = IsSome (value_of node)
+  Borrows value_of (Ready c) = ⊥
+  Borrows value_of (Deferred node (Some c)) = ⊥
 
   -- no value is there, and the node nests more than 128 containers
   abbrev pub IsTooDeep : (N → Tree) → LazyInstance N → Type 0

@@ -1,8 +1,8 @@
 //! `LazyInstance`: a value that is made where it is asked for first.
 
 ghost use Rattle.std.specs.Prelude.{◌≡◌, ◌↔◌, Some, Ok, Err, IfOk, IfSome, IsOk, IsSome, OnErr, OnOk};
-ghost use Rattle.json_traits.specs.Cows.{cow_tree};
-ghost use Rattle.json_traits.specs.Instances.{held, instance_tree, waiting_node, IsTooDeep};
+ghost use Rattle.json_traits.specs.Cows.{cow_tree, TakesNoMemory};
+ghost use Rattle.json_traits.specs.Instances.{filled_with, held, instance_tree, waiting_node, Borrows, IsTooDeep};
 ghost use Rattle.json_traits.specs.declared.value_error.ValueError.{ValueError};
 
 use crate::has_tree::HasTree;
@@ -46,23 +46,27 @@ impl<'a, N: Node<'a>> LazyInstance<'a, N> {
     ghost use Rattle.std.specs.Borrow.{sem};
     ghost use Rattle.json_traits.specs.Keeping.{KeepsValue};
 
-    /// The value, which is made by the first call of a deferred node and kept. A refusal leaves an empty cell empty. Only the first call
-    /// of a deferred node may take memory.
+    /// The value. The first call of a deferred node makes it by the node's `to_value`, and puts it into the cell beside the node. Later
+    /// calls hand out the same one. A refusal leaves the cell empty. Only a call that finds the cell empty may take memory, and none
+    /// does where the node is that of a value in memory.
     pub fn get(&mut self, alloc: Global) -> Result<&ValueCow<'a>, ValueError>
         ensures tree { IfOk result (λ c. cow_tree c.now ≡ instance_tree N.tree self.old) }
         ensures there { IsSome (held self.old) → IsOk result }
         ensures* kept { sem 𝓛 (KeepsValue N.row self.entry result) }
         ensures too_deep { (result ≡ Err ValueError.TooDeep) ↔ IsTooDeep N.tree self.old }
+        ensures borrows { Borrows N.value_of self.old → ¬ (result ≡ Err ValueError.OutOfMemory) }
     {
         self.fill(alloc)?;
         Ok(self.filled())
     }
 
-    /// The value as it is there, or as it is made now. A refusal drops the instance: the caller has a copy of the node.
+    /// The value as it is there, or as it is made now. The value of a node in memory is borrowed. A refusal drops the instance: the
+    /// caller has a copy of the node.
     pub fn into_cow(self, alloc: Global) -> Result<ValueCow<'a>, ValueError>
         ensures tree { IfOk result (λ c. cow_tree c ≡ instance_tree N.tree self.entry) }
         ensures there { IfSome (held self.entry) (λ c. result ≡ Ok c) }
         ensures too_deep { (result ≡ Err ValueError.TooDeep) ↔ IsTooDeep N.tree self.entry }
+        ensures borrows { Borrows N.value_of self.entry → TakesNoMemory result }
     {
         match self {
             LazyInstance::Ready(cow) => Ok(cow),
@@ -80,6 +84,8 @@ impl<'a, N: Node<'a>> LazyInstance<'a, N> {
         ensures there { IsSome (held self.old) → IsOk result × (self.new ≡ self.old) }
         ensures too_deep { (result ≡ Err ValueError.TooDeep) ↔ IsTooDeep N.tree self.old }
         ensures err { OnErr result (self.new ≡ self.old) }
+        ensures beside { IfSome (held self.new) (λ c. self.new ≡ filled_with self.old c) }
+        ensures borrows { Borrows N.value_of self.old → ¬ (result ≡ Err ValueError.OutOfMemory) }
     {
         let Some(node) = self.waiting() else {
             return Ok(());

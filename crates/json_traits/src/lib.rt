@@ -28,7 +28,7 @@
 //! The source is JSON Schema 2020-12, validation, section 6.1.1. A set holds exactly the types that are put in: `Integer`
 //! is not held where `Number` alone is. The order of the types is this project's own: `null`, `boolean`, `integer`,
 //! `number`, `string`, `array`, `object`. Only `JsonNumber::as_str`, `Array::is_unique`, `Json::prepare_key`,
-//! `Json::string_node`, `Node::to_value`, and what calls it, take memory.
+//! `Json::string_node`, `Node::to_value`, `ValueCow::into_owned`, and `LazyInstance::get` and `into_cow`, take memory.
 #![tactic(auto)]
 
 mod array;

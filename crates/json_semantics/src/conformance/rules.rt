@@ -1,7 +1,7 @@
 //! The rules that a node of the document keeps.
 
 ghost use Rattle.std.specs.List.{AllByRecursion};
-ghost use Rattle.std.specs.Prelude.{◌≡◌, ◌↔◌, ⊤, length, map, Some, IsTrue, MatchOption, option_map};
+ghost use Rattle.std.specs.Prelude.{◌≡◌, ◌↔◌, ⊤, length, map, Some, IfOk, IsTrue, MatchOption, option_map};
 ghost use Rattle.json_model.specs.Parts.{lookup, pairs_of};
 ghost use Rattle.json_model.specs.Same.{Same};
 ghost use Rattle.json_exact.specs.Trees.{pairs};
@@ -10,10 +10,9 @@ ghost use Rattle.json_semantics.specs.Conformance.{broken_rule, has_equal_elemen
 
 use super::error::ConformanceError;
 use super::sample::document_members;
-use super::unique::is_unique;
-use json_exact::Map;
+use json_exact::{Map, OutOfMemory};
 use json_traits::types::JsonType;
-use json_traits::{Array, FamilyOf, Json, Node, Object};
+use json_traits::{Array, Json, Node, Object};
 use std::alloc::Global;
 
 /// The rules, in order.
@@ -47,7 +46,7 @@ const RULES: [ConformanceError<'static>; 26] = [
 ];
 
 /// Whether a node keeps the rules of the document, or the first that it breaks: each refusal says what it asks. It takes memory for
-/// the document, of which it may want whatever the node is.
+/// the document, of which it may want whatever the node is, and for what [`Array::is_unique`] of the member `duplicates` takes.
 pub fn assert_conformance<'a, 'n, F: Json<'a>>(
     alloc: Global,
     root: &F::Node,
@@ -55,7 +54,7 @@ pub fn assert_conformance<'a, 'n, F: Json<'a>>(
     ensures { Judges (F.Node.tree root.now) result }
 {
     let wanted = document_members(alloc)?;
-    match first_broken(root, &wanted, RULES) {
+    match first_broken(alloc, root, &wanted, RULES)? {
         Some(rule) => Err(rule),
         None => Ok(()),
     }
@@ -63,29 +62,35 @@ pub fn assert_conformance<'a, 'n, F: Json<'a>>(
 
 /// The first rule that a node breaks, if it breaks one, named by its refusal.
 fn first_broken<'a, 'n, N: Node<'a>>(
+    alloc: Global,
     root: &N,
     wanted: &Map,
     order: [ConformanceError<'n>; 26],
-) -> Option<ConformanceError<'n>>
+) -> Result<Option<ConformanceError<'n>>, OutOfMemory>
     requires members { pairs wanted.now ≡ the_members }
     requires in_order { map broken_rule order ≡ map Some rules }
-    ensures { MatchOption result (AllByRecursion (Obeys (N.tree root.now)) rules)
-        (λ e. MatchOption (broken_rule e) ⊤ (IsFirstBroken (N.tree root.now))) }
+    ensures { IfOk result (λ b. MatchOption b (AllByRecursion (Obeys (N.tree root.now)) rules)
+        (λ e. MatchOption (broken_rule e) ⊤ (IsFirstBroken (N.tree root.now)))) }
 {
     for rule in &order {
-        if !keeps(root, wanted, *rule) {
-            return Some(*rule);
+        if !keeps(alloc, root, wanted, *rule)? {
+            return Ok(Some(*rule));
         }
     }
-    None
+    Ok(None)
 }
 
 /// Whether a node keeps the rule that a refusal names.
-fn keeps<'a, N: Node<'a>>(root: &N, wanted: &Map, rule: ConformanceError<'_>) -> bool
+fn keeps<'a, N: Node<'a>>(
+    alloc: Global,
+    root: &N,
+    wanted: &Map,
+    rule: ConformanceError<'_>,
+) -> Result<bool, OutOfMemory>
     requires { pairs wanted.now ≡ the_members }
-    ensures { MatchOption (broken_rule rule.entry) ⊤ (λ r. IsTrue result ↔ Obeys (N.tree root.now) r) }
+    ensures { IfOk result (λ b. MatchOption (broken_rule rule.entry) ⊤ (λ r. IsTrue b ↔ Obeys (N.tree root.now) r)) }
 {
-    match rule {
+    let kept = match rule {
         ConformanceError::NotAnObject => root.as_object().is_some(),
         ConformanceError::WrongLength => has_eight_members(root),
         ConformanceError::UnexpectedMember => found(root, "missing").is_none(),
@@ -93,10 +98,11 @@ fn keeps<'a, N: Node<'a>>(root: &N, wanted: &Map, rule: ConformanceError<'_>) ->
         ConformanceError::WrongType { name } => has_wanted_type(root, wanted, name),
         ConformanceError::WrongScalar { name } => is_as_wanted(root, wanted, name),
         ConformanceError::WrongElements => is_as_wanted(root, wanted, "array"),
-        ConformanceError::WrongUniqueness => has_equal_elements(root),
+        ConformanceError::WrongUniqueness => has_equal_elements(alloc, root)?,
         ConformanceError::WrongNested => is_as_wanted(root, wanted, "object"),
         ConformanceError::OutOfMemory => true,
-    }
+    };
+    Ok(kept)
 }
 
 /// The value under a name, if there is one.
@@ -139,14 +145,14 @@ fn is_as_wanted<'a, N: Node<'a>>(root: &N, wanted: &Map, name: &str) -> bool
 }
 
 /// Whether two elements of the member `duplicates` are equal.
-fn has_equal_elements<'a, N: Node<'a>>(root: &N) -> bool
-    ensures { IsTrue result ↔ Obeys (N.tree root.now) equal_elements_rule }
+fn has_equal_elements<'a, N: Node<'a>>(alloc: Global, root: &N) -> Result<bool, OutOfMemory>
+    ensures { IfOk result (λ b. IsTrue b ↔ Obeys (N.tree root.now) equal_elements_rule) }
 {
     let Some(node) = found(root, "duplicates") else {
-        return false;
+        return Ok(false);
     };
     match node.as_array() {
-        Some(array) => !is_unique::<FamilyOf<'a, N>>(&array),
-        None => false,
+        Some(array) => Ok(!array.is_unique(alloc)?),
+        None => Ok(false),
     }
 }

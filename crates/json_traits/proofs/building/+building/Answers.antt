@@ -1,4 +1,4 @@
-use Rattle.std.proofs.Common.{◌≡◌, ◌+◌, ◌++◌, ◌∷◌, [], List, Some, ap, arith, drop, length, length-append, map, string_bytes, subst, sym, take, ◌∙◌}
+use Rattle.std.proofs.Common.{◌+◌, ap, arith, drop, length, length-append, map, ◌∙◌}
 use Rattle.std.proofs.lemmas.List.{drop_all, take_all}
 use Rattle.json_model.specs.Nest.{nest}
 use Rattle.json_model.specs.Parts.{elements_of, pairs_of}

@@ -1,6 +1,6 @@
-use Rattle.std.proofs.Common.{◌≤◌, refl, sym, subst, ap, arith, length, length-append}
-use Rattle.json_model.specs.Nest.{nest, nest_elements, nest_members}
-use Rattle.json_model.specs.Parts.{elements_from, elements_of, members_from, pairs_of}
+use Rattle.std.proofs.Common.{◌≤◌, refl, sym, subst, arith, length, length-append}
+use Rattle.json_model.specs.Nest.{nest}
+use Rattle.json_model.specs.Parts.{elements_of, pairs_of}
 use Rattle.json_traits.proofs.GivesLaws.{left_item, left_end}
 use Rattle.json_traits.proofs.ShapeLaws.{array_nests, object_nests}
 use Rattle.json_traits.proofs.WalkLaws.{goes_on, stops, ends, elements_within, members_within}

@@ -1,7 +1,7 @@
-use Rattle.std.proofs.Common.{◌≡◌, ◌+◌, ◌≤◌, refl, sym, subst, ap, arith, length, length-append, length-drop, drop, ◌∙◌}
+use Rattle.std.proofs.Common.{◌+◌, refl, sym, ap, arith, length, length-append, drop, ◌∙◌}
 use Rattle.std.proofs.lemmas.List.{drop_all}
 use Rattle.json_model.specs.Nest.{nest}
-use Rattle.json_model.specs.Parts.{elements_from, elements_of, members_from, pairs_of}
+use Rattle.json_model.specs.Parts.{elements_of, pairs_of}
 use Rattle.json_traits.proofs.EqualityLaws.{same_count, next_same, next_differs, none_differs, arrays_same, objects_same, pairs_counted}
 use Rattle.json_traits.proofs.GivesLaws.{left_item, left_end}
 use Rattle.json_traits.proofs.PlaceLaws.{pairs_by_place, first_differs, first_same, none_right}

@@ -1,4 +1,4 @@
-use Rattle.std.proofs.Common.{◌≡◌, ◌+◌, ◌*◌, drop, length}
+use Rattle.std.proofs.Common.{◌+◌, ◌*◌, drop, length}
 use Rattle.std.specs.Prelude.{◌↔◌}
 use Rattle.json_model.specs.Nest.{nest, nest_elements, nest_members}
 use Rattle.json_model.specs.Parts.{elements_from, elements_of, members_from, pairs_of}

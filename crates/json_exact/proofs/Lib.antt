@@ -1,4 +1,5 @@
 pub mod DigitLaws
+pub mod SerdeNumberLaws
 pub mod SignLaws
 pub mod NarrowLaws
 pub mod NarrowGroupLaws
@@ -30,3 +31,5 @@ pub mod ParseLaws
 pub mod TextLiteralLaws
 pub mod NestLaws
 pub mod InsertLaws
+pub mod SerdeOrderLaws
+pub mod SerdeTreeLaws

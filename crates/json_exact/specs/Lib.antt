@@ -7,4 +7,5 @@ pub mod Parsed
 pub mod DecimalGroups
 pub mod Trees
 pub mod MapIteration
+pub mod Serde
 pub mod inner

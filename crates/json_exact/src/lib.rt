@@ -14,6 +14,8 @@
 //! Decimal::parse("-12345.6")?.parts();                     // negative, mantissa 123456, exponent -1
 //! map.insert(key, Value::Number(number))?;                 // the old value under the key, if any
 //! value.clone_in(alloc)?;                                  // a value of the same tree, in memory of its own
+//! Value::from_json_text(alloc, "[1, {}]")?;                // an array of 1 and the empty object
+//! Value::from_json_text(alloc, "1.0");                     // Err(Float)
 //! ```
 //!
 //! A `Decimal` is kept as PostgreSQL stores it in `jsonb`: in groups of four digits that begin at the point. The first group
@@ -30,16 +32,22 @@
 //! The notation is that of RFC 8259, section 6, and the values those of section 3. The limits are this project's own: a
 //! decimal has at most 38 digits from the first to the last that is not 0, its magnitude is below 10^131072, and 16,383
 //! fraction digits write it exactly. `from_groups` answers `None` where there are more digits, and `parse` a [`NumberError`].
-//! Only `Number::to_text`, `Value::clone_in`, `Map::insert` of a new key and `Map::from_members` may take memory.
+//! Only `Number::to_text`, `Value::clone_in`, `Value::from_serde`, `Value::from_json_text`, `Map::insert` of a new key and
+//! `Map::from_members` may take memory.
+//!
+//! JSON text is read by `serde_json`, whose definition says which text is which value. It keeps whole numbers of 64 bits
+//! exactly and every other number as a float, which rounds: so a float is refused.
 //!
 //! Contracts see a `Decimal` as a whole number of parts, of which 10^16383 make one (`specs/Exact.antt`), a `Number` as the
 //! record of its digits and its fraction digits that `json_model` calls `Decimal`, and a `Value` as its tree
-//! (`specs/Trees.antt`). [`laws`] says what holds of all of them.
+//! (`specs/Trees.antt`); `specs/Serde.antt` has the tree of a value of `serde_json`. [`laws`] says what holds of all of them.
 #![tactic(auto)]
 
 mod cloning;
 mod decimal;
+mod from_serde;
 mod group;
+mod json_text;
 pub mod laws;
 mod literal;
 mod map;
@@ -56,6 +64,8 @@ mod value;
 mod whole;
 
 pub use decimal::{Decimal, DecimalParts};
+pub use from_serde::FromSerdeError;
+pub use json_text::JsonTextError;
 pub use key_map::MapError;
 pub use map::{InsertError, Map, Member};
 pub use map_iter::MapIter;

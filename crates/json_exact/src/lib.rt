@@ -42,6 +42,7 @@ mod decimal;
 mod group;
 pub mod laws;
 mod literal;
+mod literal_parts;
 mod map;
 mod map_iter;
 mod number;
@@ -57,6 +58,8 @@ mod whole;
 
 pub use decimal::{Decimal, DecimalParts};
 pub use key_map::MapError;
+pub use literal::Exponent;
+pub use literal_parts::LiteralParts;
 pub use map::{InsertError, Map, Member};
 pub use map_iter::MapIter;
 pub use number::Number;

@@ -28,6 +28,7 @@ pub mod ReadingLaws
 pub mod LiteralLaws
 pub mod PlaceLaws
 pub mod ParseLaws
+pub mod CutLaws
 pub mod TextLiteralLaws
 pub mod NestLaws
 pub mod InsertLaws

@@ -4,6 +4,7 @@ pub mod Text
 pub mod Groups
 pub mod Literal
 pub mod Parsed
+pub mod CutLiteral
 pub mod DecimalGroups
 pub mod Trees
 pub mod MapIteration

@@ -52,7 +52,7 @@ fn push_digits(digits: &mut SignificantDigits, bytes: &[u8]) -> usize
 
 /// Whether `-` stands at the front, and what is behind it.
 #[tactic(auto, unfolding(crate::specs::inner::Reading::minus_of))]
-fn read_minus(bytes: &[u8]) -> (bool, &[u8])
+pub fn read_minus(bytes: &[u8]) -> (bool, &[u8])
     ensures read { (result.0, result.1.now) ≡ minus_of bytes.now }
     ensures len { length result.1.now ≤ length bytes.now }
 {
@@ -96,7 +96,7 @@ fn read_size(bytes: &[u8]) -> Option<u64>
 
 /// The exponent, which must end the text.
 #[tactic(auto, unfolding(crate::specs::inner::Reading::exponent_of))]
-fn read_exponent(bytes: &[u8]) -> Option<Exponent>
+pub fn read_exponent(bytes: &[u8]) -> Option<Exponent>
     ensures { option_map (λ e. (e.down, e.size)) result ≡ option_map capped_exponent
         (exponent_of bytes.now) }
 {

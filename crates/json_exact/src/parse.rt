@@ -22,7 +22,7 @@ const MOST_FRACTION_DIGITS: u64 = 16_383;
 const MOST_WHOLE_DIGITS: u64 = 131_072;
 
 /// How many fraction digits are written, or the largest `u64` where they are more.
-fn written_fraction_digits(count: u64, exponent: Exponent) -> u64
+pub fn written_fraction_digits(count: u64, exponent: Exponent) -> u64
     ensures { result ≡
         (if exponent.down then capped (count + exponent.size) else count - exponent.size) }
 {
@@ -34,7 +34,7 @@ fn written_fraction_digits(count: u64, exponent: Exponent) -> u64
 }
 
 /// How many zeros the exponent puts behind the digits.
-fn zeros_behind(count: u64, exponent: Exponent) -> u64
+pub fn zeros_behind(count: u64, exponent: Exponent) -> u64
     ensures { result ≡ (if exponent.down then 0 else exponent.size - count) }
 {
     if exponent.down {

@@ -53,4 +53,5 @@ encodes_begin (c ∷ cs) s =
 -- a text has as many code points as bytes that begin one
 pub text_begins : (bytes : List ℕ) → IsUtf8 bytes → count_by begins_char bytes ≡ length (chars bytes)
 text_begins bytes u =
-    subst (λ (b : List ℕ). count_by begins_char b ≡ length (chars bytes)) (encodes-chars bytes u) (encodes_begin (chars bytes) (scalars-chars bytes u))
+    subst (λ (b : List ℕ). count_by begins_char b ≡ length (chars bytes)) (encodes-chars bytes u)
+    (encodes_begin (chars bytes) (scalars-chars bytes u))

@@ -24,7 +24,8 @@ module _ {p : ℕ → Bool} {k m : ℕ} {bs cs : List ℕ} {v w : ℕ} where
   WordTallies-both s t = record {
     lanes = zip2 (λ a b. a + b) s.lanes t.lanes;
     tallies = Tallies-both s.tallies t.tallies;
-    value = ap (λ n. n + w) s.value ∙ ap (λ n. number_l 256 s.lanes + n) t.value ∙ sym (add_words s.lanes t.lanes (s.tallies.long ∙ sym t.tallies.long));
+    value = ap (λ n. n + w) s.value ∙ ap (λ n. number_l 256 s.lanes + n) t.value
+        ∙ sym (add_words s.lanes t.lanes (s.tallies.long ∙ sym t.tallies.long));
   }
 
 module _ {p : ℕ → Bool} {k : ℕ} {bs : List ℕ} {word : ℕ} where

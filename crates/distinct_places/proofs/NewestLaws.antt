@@ -32,7 +32,8 @@ AreLinked hs k os = (j : ℕ) (d : Option ℕ) → j < k → IsNewest hs j (get_
 older_below : (j k : ℕ) → j ≢ k → j < k + 1 → j < k
 older_below j k apart lt = omega arith
 
-module _ (hs : List ℕ) (os : List (Option ℕ)) (o : Option ℕ) (k : ℕ) (len : length os ≡ k) (all : AreLinked hs k os) (one : IsNewest hs k (get_or hs k 0) o) where
+module _ (hs : List ℕ) (os : List (Option ℕ)) (o : Option ℕ) (k : ℕ) (len : length os ≡ k) (all : AreLinked hs k os)
+    (one : IsNewest hs k (get_or hs k 0) o) where
   older_by : (x : Bool) (j : ℕ) (d : Option ℕ) → eqb j k ≡ x → j < k + 1 → IsNewest hs j (get_or hs j 0) (get_or (os ++ o ∷ []) j d)
   older_by true j d is lt =
       let same = eqb-true j k is in

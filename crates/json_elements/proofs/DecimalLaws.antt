@@ -46,7 +46,8 @@ sizes_of a b s = sym (abs_times a.digits (10 ^ b.places)) ∙ ap nat_abs s ∙ a
 
 signs_of : (a b : Written) → IsSameValue a b → int_lt a.digits (pos 0) ≡ int_lt b.digits (pos 0)
 signs_of a b s =
-    sym (sign_times a.digits (10 ^ b.places) (ten_pos b.places)) ∙ ap (λ (z : ℤ). int_lt z (pos 0)) s ∙ sign_times b.digits (10 ^ a.places) (ten_pos a.places)
+    sym (sign_times a.digits (10 ^ b.places) (ten_pos b.places)) ∙ ap (λ (z : ℤ). int_lt z (pos 0)) s
+    ∙ sign_times b.digits (10 ^ a.places) (ten_pos a.places)
 
 factor_none : (n k p : ℕ) → 0 < p → n * p ≡ k → k ≡ 0 → n ≡ 0
 factor_none n k p some e z = eq_of_mul-eq-mul_right p some n 0 (e ∙ z ∙ omega arith)
@@ -67,7 +68,8 @@ same_parts a b zero none s =
 same_parts a b (suc n) is s =
     let size = sizes_of a b s in
     let r = ends_in (nat_abs b.digits) (nat_abs b.digits) (omega arith) (omega (arith, is)) in
-    let e : nat_abs a.digits * 10 ^ b.places ≡ r.0 * 10 ^ (r.1 + a.places) = size ∙ ap (λ (x : ℕ). x * 10 ^ a.places) r.2.0 ∙ raised r.0 r.1 a.places in
+    let e : nat_abs a.digits * 10 ^ b.places ≡ r.0 * 10 ^ (r.1 + a.places) =
+    size ∙ ap (λ (x : ℕ). x * 10 ^ a.places) r.2.0 ∙ raised r.0 r.1 a.places in
     let none : nat_abs a.digits ≡ 0 → nat_abs b.digits ≡ 0 = λ z.
     factor_none (nat_abs b.digits) (nat_abs a.digits * 10 ^ b.places) (10 ^ a.places) (ten_pos a.places) (sym size)
     (ap (λ (n : ℕ). n * 10 ^ b.places) z ∙ omega arith) in
@@ -114,7 +116,8 @@ module _ (w : Written) (d e : ℤ) (m : ℕ) (worth : IsWorth d w) (scale : IsSc
   parts_by : (n : ℕ) → nat_abs w.digits ≡ n → (mantissa w ≡ m) × (exponent w ≡ e)
   parts_by zero is =
       let size : nat_abs d ≡ 0 =
-      factor_none (nat_abs d) (nat_abs w.digits * parts) (10 ^ w.places) (ten_pos w.places) (sizes d w worth) (ap (λ (n : ℕ). n * parts) is ∙ omega arith) in
+      factor_none (nat_abs d) (nat_abs w.digits * parts) (10 ^ w.places) (ten_pos w.places) (sizes d w worth)
+      (ap (λ (n : ℕ). n * parts) is ∙ omega arith) in
       let zero_is = none (none_is d size) in
       let mine = no_mantissa w is in
       (mine ∙ sym zero_is.0, no_exponent w mine ∙ sym zero_is.1)
@@ -139,7 +142,8 @@ module _ (w : Written) (d e : ℤ) (m : ℕ) (worth : IsWorth d w) (scale : IsSc
   parts_are = parts_by (nat_abs w.digits) refl
 
 -- the bytes of a decimal, fed part by part
-pub fed_by_parts : (state : ℕ) (w : Written) (negative : Bool) (m : ℕ) (e : ℤ) → negative ≡ int_lt w.digits (pos 0) → (mantissa w ≡ m) × (exponent w ≡ e)
+pub fed_by_parts : (state : ℕ) (w : Written) (negative : Bool) (m : ℕ) (e : ℤ) → negative ≡ int_lt w.digits (pos 0) → (mantissa w ≡ m)
+    × (exponent w ≡ e)
     → fed (fed (fed_one state (if negative then 1 else 0)) (exponent_bytes e)) (mantissa_bytes m) ≡ fed state (decimal_bytes w)
 unfolding decimal_bytes
 fed_by_parts state w negative m e sign p =

@@ -45,9 +45,14 @@ pub object_opened : (ps : List (List ℕ × Tree)) (t : Tree) → object (member
     → (hash (7 ∷ word ((0 + members_sum (members_from ps)) % 2 ^ 64)) ≡ element_number t) × (1 + members_weight (members_from ps) < weight t)
     × (KeysRiseInMembers (members_from ps) → KeysRise t)
 object_opened ps t e rise =
-    subst (λ (u : Tree). (hash (7 ∷ word ((0 + members_sum (members_from ps)) % 2 ^ 64)) ≡ element_number u) × (1 + members_weight (members_from ps) < weight u)
-    × (KeysRiseInMembers (members_from ps) → KeysRise u)) e
-    (ap (λ (x : ℕ). hash (7 ∷ word x)) (no_sum (members_sum (members_from ps)) (sum_small (members_from ps))), omega arith, λ h. (ap rises (keys_from ps) ∙ rise, h))
+    subst (λ (u : Tree). (hash (7 ∷ word ((0 + members_sum (members_from ps)) % 2 ^ 64)) ≡ element_number u)
+    × (1 + members_weight (members_from ps) < weight u)
+    × (KeysRiseInMembers (members_from ps) → KeysRise u)) e (
+      ap (λ (x : ℕ). hash (7 ∷ word x)) (no_sum (members_sum (members_from ps)) (sum_small (members_from ps))),
+      omega arith,
+      λ h.
+          (ap rises (keys_from ps) ∙ rise, h),
+    )
 
 module _ {E M : Type 0} (trees : E → List Tree) (pairs : M → List (List ℕ × Tree)) where
   -- the next element of an array
@@ -94,7 +99,8 @@ module _ {E M : Type 0} (trees : E → List Tree) (pairs : M → List (List ℕ 
 
   -- ---- one more container around the others
 
-  around_more : (fs : List (Frame E M)) (f : Frame E M) (n : ℕ) → around trees pairs (fs ++ f ∷ []) n ≡ around trees pairs fs (finished trees pairs (added f n))
+  around_more : (fs : List (Frame E M)) (f : Frame E M) (n : ℕ)
+      → around trees pairs (fs ++ f ∷ []) n ≡ around trees pairs fs (finished trees pairs (added f n))
   around_more [] f n = refl
   around_more (g ∷ fs) f n = ap (λ (x : ℕ). finished trees pairs (added g x)) (around_more fs f n)
 
@@ -102,7 +108,8 @@ module _ {E M : Type 0} (trees : E → List Tree) (pairs : M → List (List ℕ 
   all_more [] f = (λ h. h, λ h. h)
   all_more (g ∷ fs) f = let more = all_more fs f in (λ h. let m = more.0 h.1 in (m.0, (h.0, m.1)), λ h. (h.1.0, more.1 (h.0, h.1.1)))
 
-  weight_more : (fs : List (Frame E M)) (f : Frame E M) → frames_weight trees pairs (fs ++ f ∷ []) ≡ frame_weight trees pairs f + frames_weight trees pairs fs
+  weight_more : (fs : List (Frame E M)) (f : Frame E M)
+      → frames_weight trees pairs (fs ++ f ∷ []) ≡ frame_weight trees pairs f + frames_weight trees pairs fs
   weight_more [] f = refl
   weight_more (g ∷ fs) f = let more = weight_more fs f in omega arith
 
@@ -128,7 +135,8 @@ module _ {E M : Type 0} (trees : E → List Tree) (pairs : M → List (List ℕ 
   module _ (f : Frame E M) (fs : List (Frame E M)) where
     -- the next value has a number at once
     pub goes_on : (after : Frame E M) (t : Tree) (n : ℕ)
-        → (finished trees pairs (added after (element_number t)) ≡ finished trees pairs f) × (frame_weight trees pairs f ≡ weight t + frame_weight trees pairs after)
+        → (finished trees pairs (added after (element_number t)) ≡ finished trees pairs f)
+        × (frame_weight trees pairs f ≡ weight t + frame_weight trees pairs after)
         × (KeysRise t → Rise trees pairs after → Rise trees pairs f)
         → (n ≡ element_number t) × KeysRise t
         → AdvancesFrames trees pairs f fs (Next (added after n)) fs
@@ -143,7 +151,8 @@ module _ {E M : Type 0} (trees : E → List Tree) (pairs : M → List (List ℕ 
 
     -- the next value is a container, and what is left around it is put off
     pub goes_in : (g after : Frame E M) (t : Tree) (new : List (Frame E M)) → new ≡ fs ++ after ∷ []
-        → (finished trees pairs (added after (element_number t)) ≡ finished trees pairs f) × (frame_weight trees pairs f ≡ weight t + frame_weight trees pairs after)
+        → (finished trees pairs (added after (element_number t)) ≡ finished trees pairs f)
+        × (frame_weight trees pairs f ≡ weight t + frame_weight trees pairs after)
         × (KeysRise t → Rise trees pairs after → Rise trees pairs f)
         → (finished trees pairs g ≡ element_number t) × (frame_weight trees pairs g < weight t) × (Rise trees pairs g → KeysRise t)
         → AdvancesFrames trees pairs f fs (Next g) new

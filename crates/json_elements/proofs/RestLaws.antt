@@ -19,7 +19,8 @@ pub objects_compared : (ps qs : List (List ℕ × Tree)) (t u : Tree) → object
 objects_compared ps qs t u e f rise also =
     let places = pairs_by_place ps qs rise also in
     subst (λ (v : Tree). (SameAtPlaces (members_from ps) (members_from qs) ↔ Same v u) × (1 + members_weight (members_from ps) < weight v)) e
-    (subst (λ (v : Tree). (SameAtPlaces (members_from ps) (members_from qs) ↔ Same (object (members_from ps)) v) × (1 + members_weight (members_from ps) < weight (object (members_from ps)))) f
+    (subst (λ (v : Tree). (SameAtPlaces (members_from ps) (members_from qs) ↔ Same (object (members_from ps)) v)
+    × (1 + members_weight (members_from ps) < weight (object (members_from ps)))) f
     ((places.1, places.0), omega arith))
 
 module _ {E M : Type 0} (trees : E → List Tree) (pairs : M → List (List ℕ × Tree)) where
@@ -28,7 +29,8 @@ module _ {E M : Type 0} (trees : E → List Tree) (pairs : M → List (List ℕ 
   all_more [] r = (λ h. h, λ h. h)
   all_more (q ∷ rs) r = let more = all_more rs r in (λ h. let m = more.0 h.1 in (m.0, (h.0, m.1)), λ h. (h.1.0, more.1 (h.0, h.1.1)))
 
-  weight_more : (rs : List (Rest E M)) (r : Rest E M) → rests_weight trees pairs (rs ++ r ∷ []) ≡ rest_weight trees pairs r + rests_weight trees pairs rs
+  weight_more : (rs : List (Rest E M)) (r : Rest E M)
+      → rests_weight trees pairs (rs ++ r ∷ []) ≡ rest_weight trees pairs r + rests_weight trees pairs rs
   weight_more [] r = refl
   weight_more (q ∷ rs) r = let more = weight_more rs r in omega arith
 

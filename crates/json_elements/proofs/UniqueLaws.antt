@@ -34,7 +34,8 @@ apart_is_unique ts us n e len =
 
 module _ {N : Type 0} (tree : N → Tree) where
   -- the number at a place is that of its tree
-  number_at : (ns : List N) (j : ℕ) (t : Tree) → slice_get (map tree ns) j ≡ Some t → get_or (map (λ n. element_number (tree n)) ns) j 0 ≡ element_number t
+  number_at : (ns : List N) (j : ℕ) (t : Tree) → slice_get (map tree ns) j ≡ Some t
+      → get_or (map (λ n. element_number (tree n)) ns) j 0 ≡ element_number t
   number_at [] j t e = absurd cc
   number_at (n ∷ ns) zero t e = let h : tree n ≡ t = cc in ap element_number h
   number_at (n ∷ ns) (suc j) t e = number_at ns j t e

@@ -59,10 +59,12 @@ counted m z zero some = omega arith
 counted m z (suc k) some = elim (le_or z k) [
   | inl le ↦
       (let none = not_divides m z k some le in
-      let test : (if eqb (m * 10 ^ z % 10 ^ suc k) 0 then 1 else 0) ≡ 0 = ap (λ (b : Bool). if b then 1 else 0) (ne_eqb (m * 10 ^ z % 10 ^ suc k) 0 none) in
+      let test : (if eqb (m * 10 ^ z % 10 ^ suc k) 0 then 1 else 0) ≡ 0 =
+      ap (λ (b : Bool). if b then 1 else 0) (ne_eqb (m * 10 ^ z % 10 ^ suc k) 0 none) in
       one_more (m * 10 ^ z) k (min k z) 0 (counted m z k some) test ∙ (let m : 0 + min k z ≡ min (suc k) z = omega (arith, le) in m))
   | inr lt ↦
-      (let test : (if eqb (m * 10 ^ z % 10 ^ suc k) 0 then 1 else 0) ≡ 1 = ap (λ (b : Bool). if b then 1 else 0) (eq-eqb (m * 10 ^ z % 10 ^ suc k) 0 (divides m z k lt)) in
+      (let test : (if eqb (m * 10 ^ z % 10 ^ suc k) 0 then 1 else 0) ≡ 1 = ap (λ (b : Bool). if b then 1 else 0)
+      (eq-eqb (m * 10 ^ z % 10 ^ suc k) 0 (divides m z k lt)) in
       one_more (m * 10 ^ z) k (min k z) 1 (counted m z k some) test ∙ (let m : 1 + min k z ≡ min (suc k) z = omega (arith, lt) in m))
 ]
 

@@ -61,7 +61,8 @@ module _ {V : Type 0} where
   all_placed P p [] h a = (h, tt)
   all_placed P p (q ∷ qs) h a = go (all_placed P p qs h a.1) (key_before q.0 p.0) (bytes_eq p.0 q.0)
     where
-      go : AllByRecursion P (keys_of (placed p qs)) → (b c : Bool) → AllByRecursion P (keys_of (if b then q ∷ placed p qs else (p ∷ (if c then qs else q ∷ qs))))
+      go : AllByRecursion P (keys_of (placed p qs)) → (b c : Bool)
+          → AllByRecursion P (keys_of (if b then q ∷ placed p qs else (p ∷ (if c then qs else q ∷ qs))))
       go rest true c = (a.0, rest)
       go rest false true = (h, a.1)
       go rest false false = (h, a)

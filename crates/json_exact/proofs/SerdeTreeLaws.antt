@@ -89,7 +89,8 @@ no_pair k None r e = refl
 no_pair k (Some t) r e = rw e refl
 
 -- where the value of one entry has no tree, the object has none
-pub one_pair_missing : (done : List Entry) (x : Entry) (left : List Entry) → tree_of (view x.1) ≡ None → pairs_of (members_view (done ++ x ∷ left)) ≡ None
+pub one_pair_missing : (done : List Entry) (x : Entry) (left : List Entry) → tree_of (view x.1) ≡ None
+    → pairs_of (members_view (done ++ x ∷ left)) ≡ None
 one_pair_missing [] x left e = rw e refl
 one_pair_missing (y ∷ done) x left e =
     no_pair (string_bytes y.0) (tree_of (view y.1)) (pairs_of (members_view (done ++ x ∷ left))) (one_pair_missing done x left e)

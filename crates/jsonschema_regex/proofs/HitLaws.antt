@@ -44,7 +44,8 @@ one_contained x [] h = elim h [ ]
 one_contained x (t ∷ ts) (inl e) = (0, omega arith, e)
 one_contained x (t ∷ ts) (inr h) = let (k, l, e) = one_contained x ts h in (suc k, omega (arith, l), e)
 
-contained_one : (x : List ℕ) (ts : List (String Global)) (k : ℕ) → k < length (texts ts) → slice_index_or (texts ts) k (chars x) ≡ chars x → IsOne x ts
+contained_one : (x : List ℕ) (ts : List (String Global)) (k : ℕ) → k < length (texts ts) → slice_index_or (texts ts) k (chars x) ≡ chars x
+    → IsOne x ts
 contained_one x [] k l e = absurd (let no : k < 0 = l in omega (arith, no))
 contained_one x (t ∷ ts) zero l e = inl e
 contained_one x (t ∷ ts) (suc k) l e =
@@ -77,7 +78,8 @@ one_any x u (t ∷ ts) (inr h) = right (matches_text x t) (list_any (matches_tex
     right true b p = refl
     right false b p = p
 
-pub among : (x : List ℕ) → IsUtf8 x → (ts : List (String Global)) → (list_any (λ t. pointwise nat_eq x (string_bytes t)) ts ≡ true) ↔ Contains (texts ts) (chars x)
+pub among : (x : List ℕ) → IsUtf8 x → (ts : List (String Global))
+    → (list_any (λ t. pointwise nat_eq x (string_bytes t)) ts ≡ true) ↔ Contains (texts ts) (chars x)
 among x u ts = (λ h. one_contained x ts (any_one x u ts h), λ (k, l, e). one_any x u ts (contained_one x ts k l e))
 
 -- no character passes a test exactly where each fails it

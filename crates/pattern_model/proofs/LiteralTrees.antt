@@ -94,7 +94,8 @@ fits_alternative (c ∷ w) = row_alternative (with_codes (Tree.leaf (Leaf.code c
 fits_alternatives : (t : Tree) (ws : List Text) → fits Level.disjunction t ≡ true → fits Level.disjunction (with_alternatives t ws) ≡ true
 fits_alternatives t [] h = h
 fits_alternatives t (w ∷ ws) h =
-    fits_alternatives (Tree.either t (alternative w)) ws (both (fits Level.disjunction t) (fits Level.alternative (alternative w)) h (fits_alternative w))
+    fits_alternatives (Tree.either t (alternative w)) ws
+    (both (fits Level.disjunction t) (fits Level.alternative (alternative w)) h (fits_alternative w))
 
 -- a tree that names nothing, refers to nothing, and whose matches are spoken of
 record Easy (t : Tree) : Type 0 where
@@ -193,7 +194,8 @@ escaped_five c h = either (c == 47) (λ e. inl (eqb-true c 47 e)) (λ g. inr
     either false f g e = g e
 
 escaped_read : (c : ℕ) (x : Text) → is_escaped c ≡ true → token_from false 92 (c ∷ x) ≡ Some (Token.leaf (Leaf.code c), x)
-unfolding token_from escaped character_escape class_escape is_alphanumeric is_alphabetic in_ranges alphabetic_ranges general_category value_in general_category_rows
+unfolding token_from escaped character_escape class_escape is_alphanumeric is_alphabetic in_ranges alphabetic_ranges general_category value_in
+    general_category_rows
 escaped_read c x h = elim (escaped_five c h) [
   | inl e ↦ subst (λ d. token_from false 92 (d ∷ x) ≡ Some (Token.leaf (Leaf.code d), x)) (sym e) refl
   | inr g ↦ elim g [

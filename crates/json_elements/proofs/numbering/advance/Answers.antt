@@ -10,11 +10,13 @@ returns-in-Numbered g c =
     let pairs = g.N.Element.pairs in
     let fs = c.args.outer.now.items in
     subst (λ f. AdvancesFrames trees pairs c.args.current fs (Next f) fs) (sym c.add.ensures)
-    (goes_on trees pairs c.args.current fs c.next.new.frame (g.N.HasTree.tree c.in-Some.value) c.in-Numbered.number c.in-Some.ensures c.in-Numbered.ensures)
+    (goes_on trees pairs c.args.current fs c.next.new.frame (g.N.HasTree.tree c.in-Some.value) c.in-Numbered.number c.in-Some.ensures
+    c.in-Numbered.ensures)
 
 pub returns-in_ok-push-in-Inside : goal.returns-in_ok-push-in-Inside
 returns-in_ok-push-in-Inside g c =
-    goes_in g.N.Element.trees g.N.Element.pairs c.args.current c.args.outer.now.items c.in-Inside.inside c.next.new.frame (g.N.HasTree.tree c.in-Some.value)
+    goes_in g.N.Element.trees g.N.Element.pairs c.args.current c.args.outer.now.items c.in-Inside.inside c.next.new.frame
+    (g.N.HasTree.tree c.in-Some.value)
     c.push.new.values.items c.in_ok-push-in-Inside.ensures c.in-Some.ensures c.in-Inside.ensures
 
 pub returns-in-Some-pop : goal.returns-in-Some-pop

@@ -18,5 +18,7 @@ returns-in-Some g c =
     let trees = g.N.Element.trees in
     let pairs = g.N.Element.pairs in
     let tree = g.N.HasTree.tree in
-    subst (λ f. IsNextIn trees pairs tree f (Some c.in-Some.member.1) (Object c.next_member.new.members c.in-Object.field-1 c.key_hash.result)) (sym c.in-Object.is)
-    (member_next trees pairs _ c.next_member.new.members c.in-Object.field-1 0 c.key_hash.result c.in-Some.member.0.now (tree c.in-Some.member.1) c.in-Some.ensures c.key_hash.ensures)
+    subst (λ f. IsNextIn trees pairs tree f (Some c.in-Some.member.1) (Object c.next_member.new.members c.in-Object.field-1 c.key_hash.result))
+    (sym c.in-Object.is)
+    (member_next trees pairs _ c.next_member.new.members c.in-Object.field-1 0 c.key_hash.result c.in-Some.member.0.now (tree c.in-Some.member.1)
+    c.in-Some.ensures c.key_hash.ensures)

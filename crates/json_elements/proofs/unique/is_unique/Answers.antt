@@ -10,7 +10,8 @@ are_apart_by_numbers-requires-clause-numbered g c =
     let tree = g.N.HasTree.tree in
     let same = c.as_slice-2.ensures.value ∙ sym c.as_slice.ensures.value in
     subst (λ (ns : List g.row.N.Denot). AreNumbered (IsSameAt (map tree ns)) c.as_slice-3.result.now) same
-    (are_numbered tree c.as_slice-2.result.now c.as_slice-3.result.now (c.as_slice-3.ensures.value ∙ c.in_ok-numbers.ensures.numbers) c.in_ok-numbers.ensures.rise)
+    (are_numbered tree c.as_slice-2.result.now c.as_slice-3.result.now (c.as_slice-3.ensures.value ∙ c.in_ok-numbers.ensures.numbers)
+    c.in_ok-numbers.ensures.rise)
 
 pub returns : goal.returns
 returns g c =

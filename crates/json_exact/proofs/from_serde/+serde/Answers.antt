@@ -22,7 +22,8 @@ pub elements_of-returns-clause-elements : goal.elements_of-returns-clause-elemen
 elements_of-returns-clause-elements t c =
     let vs = c.args.items.now in
     all_elements vs (map tree c.loop-item.elements.items)
-    (ap (map (λ (v : SerdeValue). tree_of (view v))) (sym (take_all c.loop-item.item-index vs (omega (arith, c.loop-item-test.false)))) ∙ c.loop-item.invariant)
+    (ap (map (λ (v : SerdeValue). tree_of (view v))) (sym (take_all c.loop-item.item-index vs (omega (arith, c.loop-item-test.false))))
+    ∙ c.loop-item.invariant)
 
 pub members_of-returns-in_err-value-clause-float : goal.members_of-returns-in_err-value-clause-float
 members_of-returns-in_err-value-clause-float t c = λ e.
@@ -51,7 +52,8 @@ pub members_of-returns-clause-members : goal.members_of-returns-clause-members
 members_of-returns-clause-members t c =
     let l = c.loop-name in
     let done = l.invariant.0 in
-    let whole : c.args.members.now.entries ≡ done = l.invariant.1 ∙ ap (λ (es : List Entry). done ++ es) c.in-None.ensures.steps.0 ∙ append-nil done in
+    let whole : c.args.members.now.entries ≡ done =
+    l.invariant.1 ∙ ap (λ (es : List Entry). done ++ es) c.in-None.ensures.steps.0 ∙ append-nil done in
     IfOk-weaker c.sorted.result (λ m. in_key_order (map member_pair l.list.items) ≡ pairs m)
     (λ m. option_map in_key_order (pairs_of (members_view c.args.members.now.entries)) ≡ Some (pairs m))
     (λ m same. ap (λ (es : List Entry). option_map in_key_order (pairs_of (members_view es))) whole

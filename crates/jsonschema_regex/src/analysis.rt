@@ -27,7 +27,7 @@ use std::borrow::CowStr;
 /// their second character. Literals may be none at all, so that `^$` is `Exact` of the empty text.
 ///
 /// It goes over the text once, from left to right. It takes memory for the texts of an `Alternation`, and for a text with an
-/// escape; one without is borrowed.
+/// escape; one without is borrowed. What it read so far may have taken memory where the answer is None, as for `^(a|b` and `^\/+`.
 pub fn analyze_pattern(
     alloc: Global,
     pattern: &str,

@@ -142,7 +142,8 @@ impl Checks {
     }
 
     /// The checks of one keyword, as member number `member` of its object. The error is that member's fault, or want of memory,
-    /// which comes of `required` and `enum` with a list, of `const`, and of `pattern` with a string, alone.
+    /// which comes of `required` and `enum` with a list, of `const`, and of `pattern` with a string, alone. A pattern of 2^30 bytes or
+    /// more that is not literal gets it too.
     pub fn of_member<'a, N: Node<'a>>(
         alloc: Global,
         name: &str,

@@ -13,7 +13,8 @@ use json_semantics::ValueNode;
 use std::alloc::Global;
 
 /// Whether the document is valid under the keyword object, by JSON Schema 2020-12. It takes memory for the names that
-/// `required` lists, for the values of `enum` and `const`, for a pattern, and for an array under `uniqueItems` with true, alone.
+/// `required` lists, for the values of `enum` and `const`, for a pattern, and for an array under `uniqueItems` with true, alone. Want of
+/// memory is also the answer to a `pattern` of 2^30 bytes or more that is not literal.
 pub fn judge_values(alloc: Global, keywords: &Value, document: &Value) -> Result<bool, KeywordError>
     ensures right { (result ≡ Err KeywordError.OutOfMemory)
         ⊎ RightOnTrees (tree keywords.now) (tree document.now) result }

@@ -3,8 +3,8 @@
 //!
 //! [`judge`] answers for two slices. For example the keywords `01000020 04000080 07000000 74797065 696e7465676572`, in hex,
 //! are `{"type":"integer"}`, and the document `01000050 08000090 20000000 8080 0100` is 1.0: it is valid, since 1.0 is an
-//! integer. The keywords are read whole, and where they have no fault the document is too, whether a keyword looks at a part
-//! or not. What is no JSON tree or no keyword object is refused by a [`JudgeError`].
+//! integer. Both are checked completely, even parts that no keyword looks at; the document only if the keywords have no fault. What
+//! is no JSON tree or no keyword object is refused by a [`JudgeError`].
 //!
 //! [`judge_values`] answers for two `json_exact::Value`s. Both stand on [`Checks`], a keyword object that is compiled once and
 //! checks many documents, whatever holds them: [`Checks::compile`] and [`Checks::check`] take each `json_traits::Node`. Why a

@@ -16,11 +16,11 @@ use std::alloc::Global;
 
 /// Whether the document is valid under the keyword object, both as PostgreSQL `jsonb` bytes, by JSON Schema 2020-12.
 ///
-/// The keywords are read whole, in place, and where they have no fault the document is too, whether a keyword looks at a part
-/// or not. Memory is taken for the nesting, for the names that `required` lists, for the values of `enum` and `const`, for a pattern,
-/// and for an array under `uniqueItems` with true. Where no container of either stands inside another, no member is `const` or
-/// `pattern`, and no array is under `uniqueItems` with true, want of memory is never answered, and neither where the keywords alone
-/// nest so, without `const` and `pattern`, and are refused.
+/// Both are checked completely, even parts that no keyword looks at; the document only if the keywords have no fault.
+///
+/// Memory is taken for containers inside others, for the names that `required` lists, for the values of `enum` and `const`, for a
+/// pattern, and for an array under `uniqueItems` with true. Where both slices stand for trees with none of these, want of memory is
+/// never answered. Nor is it where the keywords' tree nests at most one level, has no `const` and no `pattern`, and is refused.
 pub fn judge(alloc: Global, keywords: &[u8], document: &[u8]) -> Result<bool, JudgeError>
     ensures right { (result ≡ Err JudgeError.OutOfMemory) ⊎ Right keywords.now document.now result }
     ensures refused { (t : Tree) → Stands keywords.now t → nest t ≤ 1 → IsLean t

@@ -83,7 +83,7 @@ impl<'a> Array<'a> for JsonbArray<'a> {
         }
     }
 
-    /// Up to 15 elements are compared each with each; from 16 on an element is compared with those alone that have its number, so
+    /// By review, up to 15 elements are compared each with each; from 16 on an element is compared with those alone that have its number, so
     /// elements that were chosen to share a number make it slow. It takes memory for the elements and their numbers, and for the
     /// nesting of those that it looks at, and no stack.
     fn is_unique(&self, alloc: Global) -> Result<bool, OutOfMemory> {

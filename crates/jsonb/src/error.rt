@@ -14,7 +14,7 @@ pub enum JsonbError {
     /// A number has more than 38 digits from the first to the last that is not 0, as 10^38 + 1.
     #[error("NumberTooWide")]
     NumberTooWide,
-    /// Memory for the nesting is wanting. A slice with no container inside another takes none.
+    /// Memory for the nesting is wanting. It never comes of a slice that stands for a tree with no container inside another.
     #[error("OutOfMemory")]
     OutOfMemory,
 }

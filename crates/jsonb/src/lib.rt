@@ -1,4 +1,5 @@
-//! Reads JSON in place from the bytes of PostgreSQL's `jsonb`, as they lie in a column.
+//! Reads JSON in place from the bytes of PostgreSQL's `jsonb`. A column's value begins with a length header, which is not part of
+//! them: [`encode::strip_varlena`] takes it off.
 //!
 //! [`Jsonb::root`] takes a whole slice, looks at every part of it, and gives the root's [`JsonbNode`], which borrows the
 //! slice and builds no tree. A node answers what it is by the traits of `json_traits`: `Node` tells the type and gives a

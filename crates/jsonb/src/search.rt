@@ -1,7 +1,7 @@
 //! What keeps a container from being JSON, with all the containers in it.
 //!
 //! The containers are read depth first. What is left of a container is put off while one inside it is read, and only where
-//! something is left: so memory is taken for the nesting alone, and none where no container stands inside another. Each
+//! something is left: so, by review, memory is taken for the nesting alone, and none where no container stands inside another. Each
 //! byte is looked at a fixed number of times.
 
 ghost use Rattle.std.specs.Prelude.{◌≡◌, ◌+◌, ◌≤◌, length, Some, IfSome, OnOk, IfErr, option_map};

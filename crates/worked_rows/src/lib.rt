@@ -5,6 +5,8 @@
 #[cfg(test)]
 mod hex_texts;
 #[cfg(test)]
+mod hostile;
+#[cfg(test)]
 mod printed;
 #[cfg(test)]
 mod runs;

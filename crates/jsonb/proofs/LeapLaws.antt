@@ -244,8 +244,11 @@ module _ (count at : ℕ) (p : Place) (e : option_map (λ (q : Place). q.at) (sk
   -- the place behind so many items is made of what is left of the words and of the payload
   pub leap_is : some (record { index = p.index + count; at = at; words = drop (4 * count) p.words; rest = drop (at - p.at) p.rest }) ≡ skip count p
   leap_is =
-      ap (λ (i : ℕ). some {A = Place} (record { index = i; at = at; words = drop (4 * count) p.words; rest = drop (at - p.at) p.rest })) (sym leaps.index)
-      ∙ ap (λ (ws : List ℕ). some {A = Place} (record { index = target.0.index; at = at; words = ws; rest = drop (at - p.at) p.rest })) (sym leaps.words)
-      ∙ ap (λ (a : ℕ). some {A = Place} (record { index = target.0.index; at = a; words = target.0.words; rest = drop (a - p.at) p.rest })) (sym target.2)
+      ap (λ (i : ℕ). some {A = Place} (record { index = i; at = at; words = drop (4 * count) p.words; rest = drop (at - p.at) p.rest }))
+      (sym leaps.index)
+      ∙ ap (λ (ws : List ℕ). some {A = Place} (record { index = target.0.index; at = at; words = ws; rest = drop (at - p.at) p.rest }))
+      (sym leaps.words)
+      ∙ ap (λ (a : ℕ). some {A = Place} (record { index = target.0.index; at = a; words = target.0.words; rest = drop (a - p.at) p.rest }))
+      (sym target.2)
       ∙ ap (λ (r : List ℕ). some {A = Place} (record { index = target.0.index; at = target.0.at; words = target.0.words; rest = r })) (sym leaps.rest)
       ∙ sym target.1

@@ -62,7 +62,8 @@ none_on t u (element x ts) (element y us) e f g h s r none = (
   none_on t u ts us e f g.1 h.1 s r.1 none.1,
 )
 
-elements_on : (ts us : Elements) → KeysRiseInElements ts → KeysRiseInElements us → SameElements ts us → IsUnique (trees_in ts) → IsUnique (trees_in us)
+elements_on : (ts us : Elements) → KeysRiseInElements ts → KeysRiseInElements us → SameElements ts us
+    → IsUnique (trees_in ts) → IsUnique (trees_in us)
 elements_on no_elements no_elements g h r unique = unique
 elements_on no_elements (element y us) g h r unique = absurd r
 elements_on (element x ts) no_elements g h r unique = absurd r

@@ -20,4 +20,5 @@ array_meets unique t a (Ok b) asked is h =
 
 pub returns-in-Some-clause-right : goal.returns-in-Some-clause-right
 returns-in-Some-clause-right g c =
-    array_meets c.args.unique (g.N.HasTree.tree c.args.node.now) (g.N.Array.HasTree.tree c.in-Some.array) c.is_unique.result (let n = c.if-not-unique.false in cc) c.in-Some.ensures c.is_unique.ensures
+    array_meets c.args.unique (g.N.HasTree.tree c.args.node.now) (g.N.Array.HasTree.tree c.in-Some.array) c.is_unique.result
+    (let n = c.if-not-unique.false in cc) c.in-Some.ensures c.is_unique.ensures

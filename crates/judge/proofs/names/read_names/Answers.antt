@@ -86,7 +86,9 @@ pub returns : goal.returns
 returns g c =
     let t = g.N.HasTree.tree c.args.value.now in
     let k = length c.loop-element.yielded in
-    let e = ends (elements_of t) c.loop-element.names.items (has c.loop-element.seen) k (left_end {u = c.next.new.self} (elements_of t) k c.loop-element.invariant.left c.in-None.ensures.steps) c.loop-element.invariant.collected in
+    let e = ends (elements_of t) c.loop-element.names.items (has c.loop-element.seen) k
+    (left_end {u = c.next.new.self} (elements_of t) k c.loop-element.invariant.left c.in-None.ensures.steps)
+    c.loop-element.invariant.collected in
     let sorted = c.put_in_key_order.new.names.items in (
       (of_list t AreNames c.in-Some.ensures).1 e.0,
       λ d. if_both (as_object d) (HasKeys sorted) (λ ps. AllByRecursion (IsKeyOf ps) (elements_of t))

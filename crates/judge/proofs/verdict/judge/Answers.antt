@@ -49,6 +49,7 @@ pub returns-clause-free : goal.returns-clause-free
 returns-clause-free c =
     λ t u stands le lean there flat free _.
     let never = freely c.args.keywords.now c.args.document.now c.in-Ok.root (node_tree c.in-Ok.root) c.in-Ok.ensures.read
-    c.in-Ok-compile.checks c.in-Ok-compile.ensures.right c.in-Ok-root.node t u (node_tree c.in-Ok-root.node) stands c.in-Ok-root.ensures.read there free in
+    c.in-Ok-compile.checks c.in-Ok-compile.ensures.right c.in-Ok-root.node t u (node_tree c.in-Ok-root.node) stands
+    c.in-Ok-root.ensures.read there free in
     let told = c.in-Err-check.ensures.ok never in
     cc

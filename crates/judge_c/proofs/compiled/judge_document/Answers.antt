@@ -4,7 +4,8 @@ use Rattle.judge_c.proofs.compiled.judge_document.Goals as goal
 
 pub returns-in-Ok-check : goal.returns-in-Ok-check
 returns-in-Ok-check c =
-    verdict c.args.checks.now c.args.document.now c.root.result c.in-Ok.node c.in-Ok-check.valid c.in-Ok.is c.root.ensures.read c.in-Ok-check.ensures.right
+    verdict c.args.checks.now c.args.document.now c.root.result c.in-Ok.node c.in-Ok-check.valid c.in-Ok.is c.root.ensures.read
+    c.in-Ok-check.ensures.right
 
 pub returns-in-Err-Malformed : goal.returns-in-Err-Malformed
 returns-in-Err-Malformed c =

@@ -12,8 +12,10 @@ loop-i-preserved c = λ k t reads compiled.
     let lt : at < length cs = omega arith in
     below_more (λ (j : ℕ). IsCodedAt k ds os (slice_set cs at v) j) at
     (λ j h. let ne : j ≢ at = omega arith in
-    subst (λ (n : ℕ). IsCoded k ds (get_or os j 0) (get_or os (j + 1) 0) n) (sym (get_or-set_other cs at j v 0 ne)) (c.loop-i.invariant k t reads compiled j h))
-    (subst (λ (n : ℕ). IsCoded k ds (get_or os at 0) (get_or os (at + 1) 0) n) (sym (get_or-set_same cs at v 0 lt)) (c.code_at.ensures k t reads compiled))
+    subst (λ (n : ℕ). IsCoded k ds (get_or os j 0) (get_or os (j + 1) 0) n) (sym (get_or-set_other cs at j v 0 ne))
+    (c.loop-i.invariant k t reads compiled j h))
+    (subst (λ (n : ℕ). IsCoded k ds (get_or os at 0) (get_or os (at + 1) 0) n) (sym (get_or-set_same cs at v 0 lt))
+    (c.code_at.ensures k t reads compiled))
 
 pub returns : goal.returns
 returns c = λ k t reads compiled i lt. c.loop-i.invariant k t reads compiled i (omega arith)

@@ -3,7 +3,7 @@ use Rattle.jsonb.specs.Root.{IsRead}
 use Rattle.jsonb.specs.declared.error.JsonbError.TheVariants as read
 use Rattle.judge.specs.Compiled.{IsCompiled}
 use Rattle.judge.specs.declared.errors.KeywordError.TheVariants as keyword
-use Rattle.judge_c.proofs.Compiled.{keywords_refused, keyword_refused, sure}
+use Rattle.judge_c.proofs.RightAnswers.{keywords_refused, keyword_refused, sure}
 use Rattle.judge_c.proofs.compiled.compile.Goals as goal
 
 pub returns-in-Err-Malformed : goal.returns-in-Err-Malformed

@@ -1,5 +1,5 @@
 use Rattle.jsonb.specs.declared.error.JsonbError.TheVariants as read
-use Rattle.judge_c.proofs.Compiled.{document_refused, verdict}
+use Rattle.judge_c.proofs.RightAnswers.{document_refused, verdict}
 use Rattle.judge_c.proofs.compiled.judge_document.Goals as goal
 
 pub returns-in-Ok-check : goal.returns-in-Ok-check

@@ -1,5 +1,6 @@
 pub mod Number
 pub mod Encoded
 pub mod Limits
+pub mod Literals
 pub mod Varlena
 pub mod inner

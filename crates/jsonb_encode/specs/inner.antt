@@ -1,2 +1,3 @@
 -- What a user need not believe: words for the code.
+pub mod Wide
 pub mod Writing

@@ -36,7 +36,9 @@ mod kind;
 pub mod laws;
 mod number;
 mod number_form;
+mod numeral;
 mod varlena;
+mod wide_number;
 mod writer;
 
 pub use container::encode_raw_key_object;
@@ -44,6 +46,7 @@ pub use encoding::{encode, encode_with};
 pub use error::EncodeError;
 pub use hex_text::to_hex;
 pub use number_form::NumericForm;
+pub use numeral::encode_numeric;
 pub use varlena::{VarlenaError, strip_varlena};
 
 /// The flag of a header that marks an array of one item as a root scalar.

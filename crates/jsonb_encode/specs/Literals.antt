@@ -1,0 +1,24 @@
+-- Which texts are number literals (RFC 8259, section 6) that have bytes in a form, and why the others have none. The literals may
+-- have any number of digits. The limits are this project's own.
+use Rattle.std.specs.Prelude.{◌≡◌, ℕ, List, IsTrue, false}
+use Rattle.json_model.specs.Decimal.{Decimal}
+use Rattle.json_exact.specs.Literal.{IsLiteral}
+use Rattle.json_exact.specs.Parsed.{IsInRange, IsNoLiteral}
+use Rattle.jsonb_encode.specs.Number.{fits}
+use Rattle.jsonb_encode.specs.declared.error.EncodeError.{EncodeError}
+use Rattle.jsonb_encode.specs.declared.error.EncodeError.TheVariants.{NotANumber, OutOfRange, DoesNotFit, TooLarge, OutOfMemory}
+use Rattle.jsonb_encode.specs.declared.number_form.NumericForm.{NumericForm}
+
+-- the text is a literal that writes w, which is in range and has the form
+pub record IsNumeral (form : NumericForm) (text : List ℕ) (w : Decimal) : Type 0 where
+  pub literal : IsLiteral text w
+  pub in_range : IsInRange w
+  pub fit : IsTrue (fits form w)
+
+-- why a text has no bytes in a form
+abbrev pub IsRefused : NumericForm → List ℕ → EncodeError → Type 0
+IsRefused form text NotANumber = IsNoLiteral text
+IsRefused form text OutOfRange = (w : Decimal) × IsLiteral text w × ¬ IsInRange w
+IsRefused form text DoesNotFit = (w : Decimal) × IsLiteral text w × IsInRange w × (fits form w ≡ false)
+IsRefused form text TooLarge = ⊥
+IsRefused form text OutOfMemory = ⊥

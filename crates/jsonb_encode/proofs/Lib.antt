@@ -10,3 +10,4 @@ pub mod NumberStands
 pub mod Numerals
 pub mod TreeStands
 pub mod RawKeys
+pub mod ContentsLaws

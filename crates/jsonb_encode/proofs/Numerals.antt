@@ -356,3 +356,8 @@ err_told {A} form text f e ne (inr h) = (
   where
     inside : ◌≡◌ {A = Result A EncodeError} (Err f) (Err e) → f ≡ e
     inside g = cc
+
+-- a numeral is not written only for want of memory
+pub only_memory : (form : NumericForm) (text : List ℕ) (e : EncodeError) (w : Decimal) → IsNumeral form text w → IsNotWritten form text e → e ≡ OutOfMemory
+only_memory form text e w h (inl r) = absurd (not_refused form text e (w, h) r)
+only_memory form text e w h (inr k) = k.0

@@ -1,7 +1,9 @@
 -- Which texts are number literals (RFC 8259, section 6) that have bytes in a form, and why the others have none. The literals may
 -- have any number of digits. The limits are this project's own.
-use Rattle.std.specs.Prelude.{◌≡◌, ℕ, List, IsTrue, false}
+use Rattle.std.specs.Prelude.{◌≡◌, ◌⊎◌, ℕ, List, [], ◌∷◌, map, IsTrue, false}
 use Rattle.json_model.specs.Decimal.{Decimal}
+use Rattle.json_model.specs.Parts.{elements_from}
+use Rattle.json_model.specs.Tree.{number, Tree, scalar, array, object, no_members, member}
 use Rattle.json_exact.specs.Literal.{IsLiteral}
 use Rattle.json_exact.specs.Parsed.{IsInRange, IsNoLiteral}
 use Rattle.jsonb_encode.specs.Number.{fits}
@@ -22,3 +24,25 @@ IsRefused form text OutOfRange = (w : Decimal) × IsLiteral text w × ¬ IsInRan
 IsRefused form text DoesNotFit = (w : Decimal) × IsLiteral text w × IsInRange w × (fits form w ≡ false)
 IsRefused form text TooLarge = ⊥
 IsRefused form text OutOfMemory = ⊥
+
+-- the texts are literals that write these numbers, one after another
+abbrev pub AreNumerals : NumericForm → List (List ℕ) → List Decimal → Type 0
+AreNumerals form [] [] = Unit {0}
+AreNumerals form [] (w ∷ ws) = ⊥
+AreNumerals form (t ∷ ts) [] = ⊥
+AreNumerals form (t ∷ ts) (w ∷ ws) = IsNumeral form t w × AreNumerals form ts ws
+
+-- why texts have no bytes in a form: the first of them that has none
+abbrev pub AreRefused : NumericForm → List (List ℕ) → EncodeError → Type 0
+AreRefused form [] e = ⊥
+AreRefused form (t ∷ ts) e = IsRefused form t e ⊎ (((w : Decimal) × IsNumeral form t w) × AreRefused form ts e)
+
+-- the trees of a number, of numbers, and of a number under a key
+abbrev pub number_tree : Decimal → Tree
+number_tree w = scalar (number w)
+
+abbrev pub numbers_tree : List Decimal → Tree
+numbers_tree ws = array (elements_from (map number_tree ws))
+
+abbrev pub member_tree : List ℕ → Decimal → Tree
+member_tree key w = object (member key (number_tree w) no_members)

@@ -27,6 +27,7 @@
 
 mod buffer;
 mod container;
+mod contents;
 mod encoding;
 mod entries;
 mod error;

@@ -1,19 +1,22 @@
 -- Items that are written one after another, whatever they are.
-use Rattle.std.proofs.Common.{◌≡◌, ℕ, zero, suc, ◌+◌, ◌-◌, ◌*◌, ◌^◌, ◌<◌, ◌≤◌, List, [], ◌∷◌, ◌++◌, length, map, take, get_or, refl, sym, ap, subst, ◌∙◌, append_assoc, arith, inl, inr, Global, Result, Ok, Err}
-use Rattle.std.specs.Prelude.{String as Text, string_bytes, MatchResult}
+use Rattle.std.proofs.Common.{◌≡◌, ℕ, zero, suc, ◌+◌, ◌-◌, ◌*◌, ◌^◌, ◌<◌, ◌≤◌, List, [], ◌∷◌, ◌++◌, length, map, take, drop, get_or, refl, sym, ap, subst, ◌∙◌, append_assoc, arith, inl, inr, Global, Vec, Result, Ok, Err}
+use Rattle.std.specs.Prelude.{String as Text, string_bytes, MatchResult, IfOk, IfErr, ◌↔◌, ◌⊎◌}
+use Rattle.std.specs.Borrow.{Bor}
 use Rattle.std.proofs.lemmas.List.{length-append}
 use Rattle.json_model.specs.Decimal.{Decimal}
 use Rattle.jsonb_layout.specs.Layout.{Item, pieces}
 use Rattle.jsonb_layout.specs.declared.form.Form.{Form}
-use Rattle.jsonb_encode.specs.Literals.{IsNumeral, AreNumerals}
-use Rattle.jsonb_encode.specs.inner.Contents.{Placed, placed, numeral_item, IsAt, AreOf, count_in, items_in, IsItemWritten}
+use Rattle.jsonb_encode.specs.Children.{child_item}
+use Rattle.jsonb_encode.specs.Literals.{IsNumeral, IsRefused, AreNumerals, AreRefused}
+use Rattle.jsonb_encode.specs.inner.Contents.{Placed, placed, numeral_item, key_at, null_at, IsAt, AreOf, count_in, items_in, IsItemWritten, IsRefusedOf, IsEncodedOf, IsNotEncodedOf}
 use Rattle.jsonb_encode.specs.inner.Writing.{IsOpen, item_of, kind_number}
 use Rattle.jsonb_encode.specs.declared.kind.Kind.{Kind}
 use Rattle.jsonb_encode.specs.declared.error.EncodeError.{EncodeError}
-use Rattle.jsonb_encode.specs.declared.error.EncodeError.TheVariants.{OutOfMemory}
+use Rattle.jsonb_encode.specs.declared.error.EncodeError.TheVariants.{TooLarge, OutOfMemory}
 use Rattle.jsonb_encode.specs.declared.contents.Contents.{Contents}
 use Rattle.jsonb_encode.specs.declared.contents.Contents.TheVariants.{Numeral, Numerals, Containers, KeyAndNumeral, KeyAndNull}
 use Rattle.jsonb_encode.specs.declared.number_form.NumericForm.{NumericForm}
+use Rattle.jsonb_encode.proofs.Numerals.{not_refused, one_reason}
 use Rattle.jsonb_encode.proofs.Opened.{open_length, pieces_more}
 
 -- each place of a list holds something
@@ -153,3 +156,135 @@ told_as r h g at before after e t = subst (λ (k : Placed). Told r k at before a
 -- an error that is handed on
 pub err_told_as : {A : Type 0} (r : Result A EncodeError) (e : EncodeError) (P : A → Type 0) (Q : EncodeError → Type 0) → r ≡ Err e → Q e → MatchResult r P Q
 err_told_as r e P Q h q = rw h q
+
+-- ---- texts
+
+pub split_texts : (ts : List (Text Global)) (i : ℕ) (d : Text Global) → i < length ts
+    → map string_bytes ts ≡ take i (map string_bytes ts) ++ string_bytes (get_or ts i d) ∷ drop (suc i) (map string_bytes ts)
+split_texts [] i d lt = absurd (omega arith)
+split_texts (t ∷ ts) zero d lt = refl
+split_texts (t ∷ ts) (suc i) d lt = ap (λ (xs : List (List ℕ)). string_bytes t ∷ xs) (split_texts ts i d (omega arith))
+
+pub taken_texts : (ts : List (Text Global)) (i : ℕ) (d : Text Global) → i < length ts
+    → take i (map string_bytes ts) ++ string_bytes (get_or ts i d) ∷ [] ≡ take (i + 1) (map string_bytes ts)
+taken_texts ts i d lt = go ts i lt ∙ ap (λ (k : ℕ). take k (map string_bytes ts)) (let e : suc i ≡ i + 1 = omega arith in e)
+  where
+    go : (ts : List (Text Global)) (i : ℕ) → i < length ts → take i (map string_bytes ts) ++ string_bytes (get_or ts i d) ∷ [] ≡ take (suc i) (map string_bytes ts)
+    go [] i lt = absurd (omega arith)
+    go (t ∷ ts) zero lt = refl
+    go (t ∷ ts) (suc i) lt = ap (λ (xs : List (List ℕ)). string_bytes t ∷ xs) (go ts i (omega arith))
+
+pub all_texts : (ts : List (Text Global)) (i : ℕ) → length ts ≤ i → take i (map string_bytes ts) ≡ map string_bytes ts
+all_texts [] zero le = refl
+all_texts [] (suc i) le = refl
+all_texts (t ∷ ts) zero le = absurd (omega arith)
+all_texts (t ∷ ts) (suc i) le = ap (λ (xs : List (List ℕ)). string_bytes t ∷ xs) (all_texts ts i (omega arith))
+
+-- one numeral more
+pub numerals_more : (form : NumericForm) (ts : List (List ℕ)) (ws : List Decimal) (t : List ℕ) (w : Decimal) → AreNumerals form ts ws → IsNumeral form t w
+    → AreNumerals form (ts ++ t ∷ []) (ws ++ w ∷ [])
+numerals_more form [] [] t w h k = (k, tt)
+numerals_more form [] (v ∷ ws) t w h k = absurd h
+numerals_more form (s ∷ ts) [] t w h k = absurd h
+numerals_more form (s ∷ ts) (v ∷ ws) t w h k = (h.0, numerals_more form ts ws t w h.1 k)
+
+-- behind numerals the first text that is refused
+pub refused_behind : (form : NumericForm) (ts us : List (List ℕ)) (ws : List Decimal) (t : List ℕ) (e : EncodeError) → AreNumerals form ts ws → IsRefused form t e
+    → AreRefused form (ts ++ t ∷ us) e
+refused_behind form [] us [] t e h r = inl r
+refused_behind form [] us (w ∷ ws) t e h r = absurd h
+refused_behind form (s ∷ ts) us [] t e h r = absurd h
+refused_behind form (s ∷ ts) us (w ∷ ws) t e h r = inr ((w, h.0), refused_behind form ts us ws t e h.1 r)
+
+-- numerals are not refused
+pub none_refused : (form : NumericForm) (ts : List (List ℕ)) (ws : List Decimal) (e : EncodeError) → AreNumerals form ts ws → AreRefused form ts e → ⊥
+none_refused form [] ws e h r = r
+none_refused form (t ∷ ts) [] e h r = h
+none_refused form (t ∷ ts) (w ∷ ws) e h (inl r) = not_refused form t e (w, h.0) r
+none_refused form (t ∷ ts) (w ∷ ws) e h (inr r) = none_refused form ts ws e h.1 r.1
+
+-- texts are refused for one reason
+pub first_reason : (form : NumericForm) (ts : List (List ℕ)) (e f : EncodeError) → AreRefused form ts e → AreRefused form ts f → e ≡ f
+first_reason form [] e f h k = absurd h
+first_reason form (t ∷ ts) e f (inl h) (inl k) = one_reason form t e f h k
+first_reason form (t ∷ ts) e f (inl h) (inr k) = absurd (not_refused form t e k.0 h)
+first_reason form (t ∷ ts) e f (inr h) (inl k) = absurd (not_refused form t f h.0 k)
+first_reason form (t ∷ ts) e f (inr h) (inr k) = first_reason form ts e f h.1 k.1
+
+-- ---- refusals of contents
+
+pub fine_not_refused : (form : NumericForm) (c : Contents) (gs : List Placed) (e : EncodeError) → AreOf form c gs → IsRefusedOf form c e → ⊥
+fine_not_refused form (Numeral t) gs e (w, h, _) r = not_refused form t.now e (w, h) r
+fine_not_refused form (Numerals ts) gs e (ws, h, _) r = none_refused form (map string_bytes ts.now) ws e h r
+fine_not_refused form (Containers cs) gs e h r = r
+fine_not_refused form (KeyAndNumeral k t) gs e (w, h, _) r = not_refused form t.now e (w, h) r
+fine_not_refused form (KeyAndNull k) gs e h r = r
+
+pub one_refusal : (form : NumericForm) (c : Contents) (e f : EncodeError) → IsRefusedOf form c e → IsRefusedOf form c f → e ≡ f
+one_refusal form (Numeral t) e f h k = one_reason form t.now e f h k
+one_refusal form (Numerals ts) e f h k = first_reason form (map string_bytes ts.now) e f h k
+one_refusal form (Containers cs) e f h k = absurd h
+one_refusal form (KeyAndNumeral l t) e f h k = one_reason form t.now e f h k
+one_refusal form (KeyAndNull l) e f h k = absurd h
+
+-- a cause that is neither the size nor want of memory is answered exactly where it stands
+pub refusal : {A : Type 0} (r : Result A EncodeError) (P : A → List ℕ) (form : NumericForm) (c : Contents) (e : EncodeError)
+    → MatchResult r (λ a. IsEncodedOf form c (P a)) (λ f. IsNotEncodedOf form c f) → (e ≡ OutOfMemory → ⊥) → (e ≡ TooLarge → ⊥)
+    → (r ≡ Err e) ↔ IsRefusedOf form c e
+refusal (Ok a) P form c e h memory large = (λ same. cc, λ r. absurd (fine_not_refused form c h.items e h.are r))
+refusal {A} (Err f) P form c e (inl h) memory large = (
+  λ same. subst (λ (x : EncodeError). IsRefusedOf form c x) (inside same) h,
+  λ r. ap (λ (x : EncodeError). Err x) (one_refusal form c f e h r),
+)
+  where
+    inside : ◌≡◌ {A = Result A EncodeError} (Err f) (Err e) → f ≡ e
+    inside g = cc
+refusal {A} (Err f) P form c e (inr h) memory large = (
+  λ same. absurd (elim h.2 [ inl m ↦ memory (sym (inside same) ∙ m) | inr l ↦ large (sym (inside same) ∙ l.0) ]),
+  λ r. absurd (fine_not_refused form c h.0 e h.1 r),
+)
+  where
+    inside : ◌≡◌ {A = Result A EncodeError} (Err f) (Err e) → f ≡ e
+    inside g = cc
+
+-- what is known of an answer
+pub ok_part : {A : Type 0} (r : Result A EncodeError) (P : A → Type 0) (Q : EncodeError → Type 0) (R : A → Type 0) → MatchResult r P Q → ((a : A) → P a → R a) → IfOk r R
+ok_part (Ok a) P Q R h f = f a h
+ok_part (Err e) P Q R h f = tt
+
+pub err_part : {A : Type 0} (r : Result A EncodeError) (P : A → Type 0) (Q R : EncodeError → Type 0) → MatchResult r P Q → ((e : EncodeError) → Q e → R e) → IfErr r R
+err_part (Ok a) P Q R h f = tt
+err_part (Err e) P Q R h f = f e h
+
+pub err_is : {A : Type 0} (r : Result A EncodeError) (P : A → Type 0) (Q : EncodeError → Type 0) (e : EncodeError) → MatchResult r P Q → r ≡ Err e → Q e
+err_is {A} r P Q e h same = subst (λ (x : Result A EncodeError). MatchResult x P Q) same h
+
+-- ---- contents whose texts are checked
+
+abbrev pub Checked : {A : Type 0} → Result A EncodeError → NumericForm → Contents → Type 0
+Checked r form c = MatchResult r (λ _. (gs : List Placed) × AreOf form c gs) (λ e. IsRefusedOf form c e)
+
+pub checked_as : {A : Type 0} (r : Result A EncodeError) (form : NumericForm) (c d : Contents) → c ≡ d → Checked r form d → Checked r form c
+checked_as r form c d e h = subst (λ (x : Contents). Checked r form x) (sym e) h
+
+pub checked_numeral : {A : Type 0} (r : Result A EncodeError) (form : NumericForm) (t : Bor (List ℕ))
+    → MatchResult r (λ _. (w : Decimal) × IsNumeral form t.now w) (λ e. IsRefused form t.now e) → Checked r form (Numeral t)
+checked_numeral (Ok a) form t h = (numeral_item form h.0 ∷ [], (h.0, h.1, refl))
+checked_numeral (Err e) form t h = h
+
+pub checked_numerals : {A : Type 0} (r : Result A EncodeError) (form : NumericForm) (ts : Bor (List (Text Global)))
+    → MatchResult r (λ _. (ws : List Decimal) × AreNumerals form (map string_bytes ts.now) ws) (λ e. AreRefused form (map string_bytes ts.now) e)
+    → Checked r form (Numerals ts)
+checked_numerals (Ok a) form ts h = (map (numeral_item form) h.0, (h.0, h.1, refl))
+checked_numerals (Err e) form ts h = h
+
+pub checked_member : {A : Type 0} (r : Result A EncodeError) (form : NumericForm) (k t : Bor (List ℕ))
+    → MatchResult r (λ _. (w : Decimal) × IsNumeral form t.now w) (λ e. IsRefused form t.now e) → Checked r form (KeyAndNumeral k t)
+checked_member (Ok a) form k t h = (key_at k.now ∷ numeral_item form h.0 ∷ [], (h.0, h.1, refl))
+checked_member (Err e) form k t h = h
+
+pub checked_containers : (form : NumericForm) (c : Contents) (cs : Bor (List (Vec ℕ Global))) → c ≡ Containers cs → (gs : List Placed) × AreOf form c gs
+checked_containers form c cs e = subst (λ (x : Contents). (gs : List Placed) × AreOf form x gs) (sym e) (map (λ (v : Vec ℕ Global). child_item v.items) cs.now, refl)
+
+pub checked_null : (form : NumericForm) (c : Contents) (k : Bor (List ℕ)) → c ≡ KeyAndNull k → (gs : List Placed) × AreOf form c gs
+checked_null form c k e = subst (λ (x : Contents). (gs : List Placed) × AreOf form x gs) (sym e) (key_at k.now ∷ null_at ∷ [], refl)

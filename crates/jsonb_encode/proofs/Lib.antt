@@ -11,3 +11,4 @@ pub mod Numerals
 pub mod TreeStands
 pub mod RawKeys
 pub mod ContentsLaws
+pub mod TextBytes

@@ -392,7 +392,8 @@ groups_within d h = elim (cases_lt 0 (magnitude d)) [
 pub body_length : (form : NumericForm) (d : Decimal) → length (body form d) ≡ length (head form (header d)) + 2 * length (groups d)
 body_length form d = omega (arith, length-append (head form (header d)) (flat_map (to_le_bytes w16) (groups d)), halves_length (groups d))
 
-body_within : (form : NumericForm) (d : Decimal) → IsInRange d → length (body form d) < 2 ^ 20
+-- and few in any form, where the number is in range
+pub body_within : (form : NumericForm) (d : Decimal) → IsInRange d → length (body form d) < 2 ^ 20
 body_within form d h = omega (arith, body_length form d, head_small form (header d), groups_within d h)
 
 -- the bytes of a number in range, in a form that it has, stand for it

@@ -6,6 +6,9 @@ use Rattle.json_model.specs.Parts.{elements_from}
 use Rattle.json_model.specs.Tree.{number, Tree, scalar, array, object, no_members, member}
 use Rattle.json_exact.specs.Literal.{IsLiteral}
 use Rattle.json_exact.specs.Parsed.{IsInRange, IsNoLiteral}
+use Rattle.jsonb_layout.specs.Stands.{Stands}
+use Rattle.jsonb_encode.specs.Encoded.{encoded}
+use Rattle.jsonb_encode.specs.Limits.{IsWithinLimits}
 use Rattle.jsonb_encode.specs.Number.{fits}
 use Rattle.jsonb_encode.specs.declared.error.EncodeError.{EncodeError}
 use Rattle.jsonb_encode.specs.declared.error.EncodeError.TheVariants.{NotANumber, OutOfRange, DoesNotFit, TooLarge, OutOfMemory}
@@ -46,3 +49,9 @@ numbers_tree ws = array (elements_from (map number_tree ws))
 
 abbrev pub member_tree : List ℕ → Decimal → Tree
 member_tree key w = object (member key (number_tree w) no_members)
+
+-- the bytes are those of the tree in the form, and stand for it
+pub record AreBytesOf (form : NumericForm) (b : List ℕ) (t : Tree) : Type 0 where
+  pub bytes : b ≡ encoded form t
+  pub within : IsWithinLimits form t
+  pub stands : Stands b t

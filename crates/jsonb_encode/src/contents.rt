@@ -1,10 +1,10 @@
 //! Containers of number literals, of keys and of other containers.
 
-ghost use Rattle.std.specs.Prelude.{◌≡◌, [], ◌+◌, ◌-◌, ◌^◌, ◌<◌, ◌≤◌, ◌++◌, ℕ, List, length, IfErr, MatchResult};
+ghost use Rattle.std.specs.Prelude.{◌≡◌, [], ◌+◌, ◌-◌, ◌^◌, ◌<◌, ◌≤◌, ◌++◌, ℕ, List, length, map, string_bytes, IfErr, MatchResult};
 ghost use Rattle.json_model.specs.Decimal.{Decimal};
 ghost use Rattle.jsonb_encode.specs.Children.{child_item};
-ghost use Rattle.jsonb_encode.specs.Literals.{IsNumeral};
-ghost use Rattle.jsonb_encode.specs.inner.Contents.{Placed, placed, numeral_item, key_at, IsAt, AreOf, shape_of, count_in, items_in, IsItemWritten, IsWrittenOf, IsUnwrittenOf};
+ghost use Rattle.jsonb_encode.specs.Literals.{IsNumeral, IsRefused, AreNumerals, AreRefused};
+ghost use Rattle.jsonb_encode.specs.inner.Contents.{Placed, placed, numeral_item, key_at, IsAt, AreOf, shape_of, count_in, items_in, IsItemWritten, IsWrittenOf, IsUnwrittenOf, IsRefusedOf, IsEncodedOf, IsNotEncodedOf};
 ghost use Rattle.jsonb_encode.specs.inner.Writing.{kind_number};
 
 use crate::buffer::{push_all, push_padding};
@@ -12,7 +12,7 @@ use crate::entries::{LIMIT, close_item, open_container};
 use crate::error::EncodeError;
 use crate::kind::Kind;
 use crate::number_form::NumericForm;
-use crate::numeral::push_text;
+use crate::numeral::{push_text, read_numeral};
 use jsonb_layout::Form;
 use std::alloc::Global;
 
@@ -49,11 +49,7 @@ fn write_numeral(
 }
 
 /// Writes the bytes of a container, with the zeros before them.
-fn write_child(
-    bytes: &mut Vec<u8>,
-    payload: usize,
-    child: &[u8],
-) -> Result<Kind, EncodeError>
+fn write_child(bytes: &mut Vec<u8>, payload: usize, child: &[u8]) -> Result<Kind, EncodeError>
     requires payload { payload ≤ length bytes.old.items }
     ensures { MatchResult result
         (λ kind. IsItemWritten (child_item child.now (length bytes.old.items - payload)) bytes.old.items bytes.new.items (kind_number kind))
@@ -72,6 +68,25 @@ fn write_key(bytes: &mut Vec<u8>, key: &[u8]) -> Result<Kind, EncodeError>
 {
     push_all(bytes, key)?;
     Ok(Kind::String)
+}
+
+/// Whether a text is a number literal that has a form: why it is refused, else.
+fn check_text(text: &str, form: NumericForm) -> Result<(), EncodeError>
+    ensures { MatchResult result (λ _. (w : Decimal) × IsNumeral form text.now w) (λ e. IsRefused form text.now e) }
+{
+    let _numeral = read_numeral(text, form)?;
+    Ok(())
+}
+
+/// Whether texts are number literals that have a form: why the first that is none is refused, else.
+fn check_texts(texts: &[String], form: NumericForm) -> Result<(), EncodeError>
+    ensures { MatchResult result (λ _. (ws : List Decimal) × AreNumerals form (map string_bytes texts.now) ws)
+        (λ e. AreRefused form (map string_bytes texts.now) e) }
+{
+    for index in 0..texts.len() {
+        check_text(texts[index].as_str(), form)?;
+    }
+    Ok(())
 }
 
 impl Contents<'_> {
@@ -142,7 +157,11 @@ impl Contents<'_> {
                 }
             }
             Contents::KeyAndNull(key) => {
-                if index == 0 { write_key(bytes, key) } else { Ok(Kind::Null) }
+                if index == 0 {
+                    write_key(bytes, key)
+                } else {
+                    Ok(Kind::Null)
+                }
             }
         }
     }
@@ -168,12 +187,24 @@ impl Contents<'_> {
         Ok(())
     }
 
-    /// The bytes of a container.
-    pub fn encode(&self, alloc: Global, form: NumericForm) -> Result<Vec<u8>, EncodeError>
-        requires { (gs : List Placed) × AreOf form self.now gs }
-        ensures { (gs : List Placed) → AreOf form self.now gs → MatchResult result
-            (λ bytes. IsWrittenOf self.now gs [] bytes.items) (λ e. IsUnwrittenOf self.now gs e) }
+    /// Whether each text is a number literal that has the form: why the first that is none is refused, else.
+    fn check(&self, form: NumericForm) -> Result<(), EncodeError>
+        ensures { MatchResult result (λ _. (gs : List Placed) × AreOf form self.now gs) (λ e. IsRefusedOf form self.now e) }
     {
+        match self {
+            Contents::Numeral(text) => check_text(text, form),
+            Contents::Numerals(texts) => check_texts(texts, form),
+            Contents::Containers(_) => Ok(()),
+            Contents::KeyAndNumeral(_, text) => check_text(text, form),
+            Contents::KeyAndNull(_) => Ok(()),
+        }
+    }
+
+    /// The bytes of a container. The texts are read before memory is taken.
+    pub fn encode(&self, alloc: Global, form: NumericForm) -> Result<Vec<u8>, EncodeError>
+        ensures { MatchResult result (λ bytes. IsEncodedOf form self.now bytes.items) (λ e. IsNotEncodedOf form self.now e) }
+    {
+        self.check(form)?;
         let mut bytes = Vec::new(alloc);
         match self.write(&mut bytes, form) {
             Ok(()) => Ok(bytes),

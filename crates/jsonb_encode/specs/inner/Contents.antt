@@ -9,7 +9,7 @@ use Rattle.jsonb_layout.specs.declared.form.Form.TheVariants.{Array, Object, Lon
 use Rattle.jsonb_encode.specs.Children.{child_item}
 use Rattle.jsonb_encode.specs.Encoded.{container, scalar_item}
 use Rattle.jsonb_encode.specs.Limits.{IsSmall}
-use Rattle.jsonb_encode.specs.Literals.{IsNumeral, AreNumerals}
+use Rattle.jsonb_encode.specs.Literals.{IsNumeral, IsRefused, AreNumerals, AreRefused}
 use Rattle.jsonb_encode.specs.declared.contents.Contents.{Contents}
 use Rattle.jsonb_encode.specs.declared.contents.Contents.TheVariants.{Numeral, Numerals, Containers, KeyAndNumeral, KeyAndNull}
 use Rattle.jsonb_encode.specs.declared.error.EncodeError.{EncodeError}
@@ -83,3 +83,21 @@ pub record IsWrittenOf (c : Contents) (gs : List Placed) (before after : List �
 -- why it is not
 abbrev pub IsUnwrittenOf : Contents → List Placed → EncodeError → Type 0
 IsUnwrittenOf c gs e = (e ≡ OutOfMemory) ⊎ ((e ≡ TooLarge) × ¬ IsSmall (count_in c) (placed gs 0))
+
+-- why a text of the contents has no bytes in the form
+abbrev pub IsRefusedOf : NumericForm → Contents → EncodeError → Type 0
+IsRefusedOf form (Numeral t) e = IsRefused form t.now e
+IsRefusedOf form (Numerals ts) e = AreRefused form (map string_bytes ts.now) e
+IsRefusedOf form (Containers cs) e = ⊥
+IsRefusedOf form (KeyAndNumeral k t) e = IsRefused form t.now e
+IsRefusedOf form (KeyAndNull k) e = ⊥
+
+-- these are the bytes
+pub record IsEncodedOf (form : NumericForm) (c : Contents) (b : List ℕ) : Type 0 where
+  pub items : List Placed
+  pub are : AreOf form c items
+  pub whole : IsWrittenOf c items [] b
+
+-- why there are none
+abbrev pub IsNotEncodedOf : NumericForm → Contents → EncodeError → Type 0
+IsNotEncodedOf form c e = IsRefusedOf form c e ⊎ ((gs : List Placed) × AreOf form c gs × IsUnwrittenOf c gs e)

@@ -55,7 +55,8 @@ fn write_child(bytes: &mut Vec<u8>, payload: usize, child: &[u8]) -> Result<Kind
         (λ kind. IsItemWritten (child_item child.now (length bytes.old.items - payload)) bytes.old.items bytes.new.items (kind_number kind))
         (λ e. e ≡ EncodeError.OutOfMemory) }
 {
-    push_padding(bytes, bytes.len() - payload)?;
+    let at = bytes.len() - payload;
+    push_padding(bytes, at)?;
     push_all(bytes, child)?;
     Ok(Kind::Container)
 }

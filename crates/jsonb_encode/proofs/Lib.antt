@@ -1,10 +1,14 @@
 pub mod Opened
 pub mod Digits
+pub mod WideDigits
 pub mod Places
 pub mod Spans
 pub mod Written
 pub mod Numbers
 pub mod Roots
 pub mod NumberStands
+pub mod Numerals
 pub mod TreeStands
 pub mod RawKeys
+pub mod ContentsLaws
+pub mod TextBytes

@@ -156,14 +156,17 @@ no_digits d e =
     go (pos n) e = ap (λ (k : ℕ). pos k) e
     go (negsuc n) e = absurd cc
 
-none_groups : (d : Decimal) → magnitude d ≡ 0 → groups d ≡ []
+-- 0 has no groups
+pub none_groups : (d : Decimal) → magnitude d ≡ 0 → groups d ≡ []
 unfolding groups
 none_groups d e = ap (λ (x : ℕ). trimmed (spread 10000 (count_of 10000 x) x)) e ∙ ap (λ (c : ℕ). trimmed (spread 10000 c 0)) (count_none 10000)
 
-none_lift : (d : Decimal) → magnitude d ≡ 0 → lift d ≡ 2 ^ 15
+-- the weight of 0 is 0
+pub none_lift : (d : Decimal) → magnitude d ≡ 0 → lift d ≡ 2 ^ 15
 none_lift d e = ap (λ (b : Bool). cond b (2 ^ 15) ((2 ^ 15 + group_count d) - (1 + fraction_groups d.places))) (eq-eqb (magnitude d) 0 e)
 
-some_lift : (d : Decimal) → 0 < magnitude d → lift d ≡ (2 ^ 15 + group_count d) - (1 + fraction_groups d.places)
+-- the weight of another number
+pub some_lift : (d : Decimal) → 0 < magnitude d → lift d ≡ (2 ^ 15 + group_count d) - (1 + fraction_groups d.places)
 some_lift d h = ap (λ (b : Bool). cond b (2 ^ 15) ((2 ^ 15 + group_count d) - (1 + fraction_groups d.places))) (ne_eqb (magnitude d) 0 (λ z. absurd (omega arith)))
 
 pub groups_few : (d : Decimal) → IsNarrow d → length (groups d) ≤ 11
@@ -174,7 +177,8 @@ groups_few d h = elim (cases_lt 0 (magnitude d)) [
 
 -- ---- the weight
 
-room : (c k e f : ℕ) → c < 10 ^ (131072 + f) → f + e ≡ 4 * k → c * 10 ^ e < 10000 ^ (32768 + k)
+-- a number in range has no group above the highest
+pub room : (c k e f : ℕ) → c < 10 ^ (131072 + f) → f + e ≡ 4 * k → c * 10 ^ e < 10000 ^ (32768 + k)
 room c k e f lt at =
     let a : c * 10 ^ e < 10 ^ (131072 + f) * 10 ^ e = mul-lt-mul_of_pos_right lt (ten_pos e) in
     let i : 131072 + f + e ≡ 4 * (32768 + k) = omega arith in
@@ -335,7 +339,7 @@ head_small Short h = go (is_short h)
     go true = omega arith
     go false = omega arith
 
-one_byte_head : (h : Header) → length (head ShortVarlena h) ≡ 2
+pub one_byte_head : (h : Header) → length (head ShortVarlena h) ≡ 2
 one_byte_head h = refl
 
 -- ---- the whole
@@ -356,7 +360,7 @@ varlena_is ShortVarlena b lt s =
 
 fits_is : (form : NumericForm) (d : Decimal) → IsTrue (fits form d) → form ≡ ShortVarlena → is_short (header d) ≡ true
 unfolding fits
-fits_is ShortVarlena d h e = h
+fits_is ShortVarlena d h e = (and_parts (is_short (header d)) (ltb (length (body ShortVarlena d)) 127) h).0
 fits_is Short d h e = absurd cc
 fits_is Long d h e = absurd cc
 
@@ -364,12 +368,41 @@ header_parts : (d : Decimal) → IsInRange d → ((header d).dscale < 2 ^ 14) ×
 unfolding header
 header_parts d h = (let le = h.1 in omega arith, lift_below d h)
 
--- the bytes of a number in a form that it has, with so few groups, stand for it
-pub stands_by : (form : NumericForm) (d : Decimal) → IsInRange d → IsTrue (fits form d) → length (body form d) < 2 ^ 20
-    → (form ≡ ShortVarlena → length (body form d) < 127) → Numeric (numeric form d) d
+-- the size of a number that has the form of one size byte is below 128
+pub fits_byte : (form : NumericForm) (d : Decimal) → IsTrue (fits form d) → form ≡ ShortVarlena → length (body form d) < 127
+unfolding fits
+fits_byte ShortVarlena d h e = ltb-true (length (body ShortVarlena d)) 127 (and_parts (is_short (header d)) (ltb (length (body ShortVarlena d)) 127) h).1
+fits_byte Short d h e = absurd cc
+fits_byte Long d h e = absurd cc
+
+-- a number in range has at most so many groups
+pub groups_within : (d : Decimal) → IsInRange d → length (groups d) ≤ 36864
+groups_within d h = elim (cases_lt 0 (magnitude d)) [
+  | inr none ↦ omega (arith, ap length (none_groups d (let z : magnitude d ≡ 0 = omega arith in z)))
+  | inl some ↦
+      let s = shape_of d some in
+      let F = fraction_groups d.places in
+      let le = h.1 in
+      let r = room (nat_abs d.digits) F (4 * F - d.places) d.places h.0 (omega arith) in
+      let t = under_power (s.under + s.zeros) (32768 + F) (magnitude d) s.low r in
+      omega (arith, ap length s.groups_are, spread_length (suc s.under) s.digits)
+]
+
+-- how long what follows the size is
+pub body_length : (form : NumericForm) (d : Decimal) → length (body form d) ≡ length (head form (header d)) + 2 * length (groups d)
+body_length form d = omega (arith, length-append (head form (header d)) (flat_map (to_le_bytes w16) (groups d)), halves_length (groups d))
+
+-- and few in any form, where the number is in range
+pub body_within : (form : NumericForm) (d : Decimal) → IsInRange d → length (body form d) < 2 ^ 20
+body_within form d h = omega (arith, body_length form d, head_small form (header d), groups_within d h)
+
+-- the bytes of a number in range, in a form that it has, stand for it
+pub number_stands : (form : NumericForm) (d : Decimal) → IsInRange d → IsTrue (fits form d) → Numeric (numeric form d) d
 unfolding numeric
-stands_by form d h fit long short =
+number_stands form d h fit =
     let p = header_parts d h in
+    let long = body_within form d h in
+    let short = fits_byte form d fit in
     record {
       body = body form d;
       head = head form (header d);
@@ -382,11 +415,15 @@ stands_by form d h fit long short =
       value = value_of d h;
     }
 
--- the bytes of a narrow number in a form that it has stand for it
-pub number_stands : (form : NumericForm) (d : Decimal) → IsNarrow d → IsInRange d → IsTrue (fits form d) → Numeric (numeric form d) d
-number_stands form d narrow h fit =
-    let few = groups_few d narrow in
-    let small = head_small form (header d) in
-    let size = length-append (head form (header d)) (flat_map (to_le_bytes w16) (groups d)) in
-    let halves = halves_length (groups d) in
-    stands_by form d h fit (omega arith) (λ _. omega arith)
+-- behind its size byte a narrow number has few bytes
+pub narrow_byte : (d : Decimal) → IsNarrow d → ltb (length (body ShortVarlena d)) 127 ≡ true
+narrow_byte d narrow = lt-ltb (length (body ShortVarlena d)) 127 (omega (arith, groups_few d narrow, body_length ShortVarlena d, one_byte_head (header d)))
+
+-- a narrow number has the form of one size byte where it has the short header
+pub narrow_fits : (d : Decimal) (b : Bool) → IsNarrow d → b ≡ is_short (header d) → b ≡ fits ShortVarlena d
+unfolding fits
+narrow_fits d b narrow e = e ∙ sym (ap (λ (c : Bool). is_short (header d) && c) (narrow_byte d narrow) ∙ and_true (is_short (header d)))
+  where
+    and_true : (c : Bool) → (c && true) ≡ c
+    and_true true = refl
+    and_true false = refl

@@ -39,11 +39,11 @@ pub narrow_of : (d : ℤ) (w : Decimal) → IsWorth d w → IsWithinLimits d →
 narrow_of d w worth h = (narrow_as_written d w worth).0 h.narrow
 
 pub wrote_number : (f : NumericForm) (w : Decimal) (at : ℕ) (before mid after : List ℕ) → mid ≡ before ++ padding at → after ≡ mid ++ numeric f w
-    → IsNarrow w → IsInRange w → IsWritten f (scalar (number w)) at before after 1
+    → IsInRange w → IsWritten f (scalar (number w)) at before after 1
 unfolding item
-wrote_number f w at before mid after e h narrow range = record {
+wrote_number f w at before mid after e h range = record {
   kind_is = refl;
   bytes = h ∙ ap (λ (xs : List ℕ). xs ++ numeric f w) e ∙ append_assoc before (padding at) (numeric f w);
   small = tt;
-  value = record { rise = tt; exact = (narrow, range) };
+  value = record { rise = tt; exact = range };
 }

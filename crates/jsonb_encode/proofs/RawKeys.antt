@@ -1,28 +1,115 @@
--- An object of one key that is any bytes, with null under it.
-use Rattle.std.proofs.Common.{ℕ, ◌^◌, ◌<◌, List, [], ◌∷◌, ◌++◌, length, refl, ap, ◌∙◌, arith}
+-- An object of one key that is any bytes, with null under it, and an array of containers.
+use Rattle.std.proofs.Common.{◌≡◌, ℕ, suc, ◌+◌, ◌^◌, ◌<◌, ◌≤◌, ◌⊎◌, List, [], ◌∷◌, ◌++◌, length, map, refl, sym, ap, subst, ◌∙◌, arith, inl, inr, Global, Vec}
+use Rattle.std.specs.Borrow.{Bor}
+use Rattle.std.specs.List.{AllByRecursion}
+use Rattle.std.proofs.lemmas.Bool.{cases_lt}
 use Rattle.std.proofs.lemmas.List.{length-append}
 use Rattle.json_model.specs.Tree.{scalar, null, object, member, no_members}
+use Rattle.jsonb_layout.specs.Layout.{Item, Laid}
 use Rattle.jsonb_layout.specs.Stands.{Stands}
-use Rattle.jsonb_layout.specs.declared.form.Form.TheVariants.{Object}
-use Rattle.jsonb_encode.specs.Encoded.{item, encoded, canonical}
-use Rattle.jsonb_encode.specs.Limits.{IsWithinLimits}
+use Rattle.jsonb_layout.specs.declared.form.Form.TheVariants.{Array}
+use Rattle.jsonb_encode.specs.Children.{child_item, child_items}
+use Rattle.jsonb_encode.specs.Encoded.{container, item, encoded, canonical}
+use Rattle.jsonb_encode.specs.Limits.{IsSmall, IsWithinLimits}
+use Rattle.jsonb_encode.specs.declared.contents.Contents.TheVariants.{Containers, KeyAndNull}
+use Rattle.jsonb_encode.specs.declared.error.EncodeError.{EncodeError}
+use Rattle.jsonb_encode.specs.declared.error.EncodeError.TheVariants.{TooLarge, OutOfMemory}
+use Rattle.jsonb_encode.specs.declared.number_form.NumericForm.{NumericForm}
 use Rattle.jsonb_encode.specs.declared.number_form.NumericForm.TheVariants.{Short}
-use Rattle.jsonb_encode.specs.inner.Writing.{item_of, IsOpen, IsKeyAlone}
-use Rattle.jsonb_encode.proofs.Opened.{opened_whole}
+use Rattle.jsonb_encode.specs.inner.Contents.{Placed, placed, IsWrittenOf, IsEncodedOf, IsNotEncodedOf}
 use Rattle.jsonb_encode.proofs.TreeStands.{tree_stands}
-
--- both items are written
-pub key_alone : (key base new : List ℕ) → IsOpen Object 1 2 (item_of 0 key ∷ item_of 4 [] ∷ []) base new → IsKeyAlone key base new
-unfolding item encoded
-key_alone key base new h = record {
-  bytes = h.bytes ∙ ap (λ (xs : List ℕ). base ++ xs) (opened_whole Object 1 2 (item_of 0 key ∷ item_of 4 [] ∷ []) refl);
-  within = omega (arith, h.small, length-append key []);
-}
 
 within : (key : List ℕ) → length key < 2 ^ 28 → IsWithinLimits Short (object (member key (scalar null) no_members))
 unfolding item
 within key lt = ((omega arith, omega (arith, length-append key [])), (tt, tt))
 
-pub key_stands : (key : List ℕ) → length key < 2 ^ 28 → Stands (canonical (object (member key (scalar null) no_members))) (object (member key (scalar null) no_members))
-key_stands key lt =
-    tree_stands Short (object (member key (scalar null) no_members)) (record { rise = (refl, (tt, tt)); exact = (tt, tt) }) refl (within key lt)
+-- the bytes of the object, and that they stand for it
+pub record IsKeyAlone (key b : List ℕ) : Type 0 where
+  pub bytes : b ≡ canonical (object (member key (scalar null) no_members))
+  pub stands : Stands b (object (member key (scalar null) no_members))
+  pub few : length key < 2 ^ 28
+
+pub key_alone : (k : Bor (List ℕ)) (b : List ℕ) → IsEncodedOf Short (KeyAndNull k) b → IsKeyAlone k.now b
+unfolding item encoded
+key_alone k b h =
+    let s = subst (λ (gs : List Placed). IsWrittenOf (KeyAndNull k) gs [] b) h.are h.whole in
+    let t = object (member k.now (scalar null) no_members) in
+    let bytes : b ≡ canonical t = s.bytes in
+    let few : length k.now < 2 ^ 28 = (let l = s.small.1 in omega (arith, length-append k.now [])) in
+    record {
+      bytes = bytes;
+      stands = subst (λ (x : List ℕ). Stands x t) (sym bytes) (tree_stands Short t (record { rise = (refl, (tt, tt)); exact = (tt, tt) }) refl (within k.now few));
+      few = few;
+    }
+
+-- a key that is not written is long
+key_long : (k : Bor (List ℕ)) (e : EncodeError) → IsNotEncodedOf Short (KeyAndNull k) e → (e ≡ OutOfMemory) ⊎ ((e ≡ TooLarge) × (2 ^ 28 ≤ length k.now))
+key_long k e (inl r) = absurd r
+key_long k e (inr (gs, are, inl m)) = inl m
+key_long k e (inr (gs, are, inr (l, big))) = inr (
+  l,
+  elim (cases_lt (length k.now) (2 ^ 28)) [
+    | inr le ↦ le
+    | inl lt ↦ absurd (big (subst (λ (hs : List Placed). IsSmall 1 (placed hs 0)) (sym are) (omega arith, omega (arith, length-append k.now []))))
+  ],
+)
+
+pub key_large : (k : Bor (List ℕ)) → IsNotEncodedOf Short (KeyAndNull k) TooLarge → 2 ^ 28 ≤ length k.now
+key_large k h = elim (key_long k TooLarge h) [ inl m ↦ absurd (apart m) | inr l ↦ l.1 ]
+  where
+    apart : TooLarge ≡ OutOfMemory → ⊥
+    apart e = cc
+
+pub key_causes : (k : Bor (List ℕ)) (e : EncodeError) → IsNotEncodedOf Short (KeyAndNull k) e → (e ≡ TooLarge) ⊎ (e ≡ OutOfMemory)
+key_causes k e h = elim (key_long k e h) [ inl m ↦ inr m | inr l ↦ inl l.0 ]
+
+-- ---- containers
+
+pub children_placed : (cs : List (Vec ℕ Global)) (at : ℕ) → placed (map (λ c. child_item c.items) cs) at ≡ child_items (map (λ c. c.items) cs) at
+children_placed [] at = refl
+children_placed (c ∷ cs) at = ap (λ (xs : List Item). child_item c.items at ∷ xs) (children_placed cs (at + length (child_item c.items at).piece))
+
+children_kinds : (cs : List (List ℕ)) (at : ℕ) → AllByRecursion (λ x. x.kind < 8) (child_items cs at)
+children_kinds [] at = tt
+children_kinds (c ∷ cs) at = (omega arith, children_kinds cs (at + length (child_item c at).piece))
+
+children_count : (cs : List (Vec ℕ Global)) (at : ℕ) → length (child_items (map (λ c. c.items) cs) at) ≡ length cs
+children_count [] at = refl
+children_count (c ∷ cs) at = ap (λ (n : ℕ). suc n) (children_count cs (at + length (child_item c.items at).piece))
+
+-- the bytes are laid out of the containers
+pub children_laid : (form : NumericForm) (cs : Bor (List (Vec ℕ Global))) (b : List ℕ) → IsEncodedOf form (Containers cs) b
+    → Laid b Array (child_items (map (λ c. c.items) cs.now) 0)
+children_laid form cs b h =
+    let s = subst (λ (gs : List Placed). IsWrittenOf (Containers cs) gs [] b) h.are h.whole in
+    let e = children_placed cs.now 0 in
+    record {
+      count = length cs.now;
+      counted = children_count cs.now 0;
+      count_fits = s.small.0;
+      kinds = children_kinds (map (λ c. c.items) cs.now) 0;
+      pieces_fit = (subst (λ (xs : List Item). IsSmall (length cs.now) xs) e s.small).1;
+      bytes = s.bytes ∙ ap (λ (xs : List Item). container Array (length cs.now) xs) e;
+    }
+
+-- where they are not, they are too large, or there is no memory
+children_unlaid : (form : NumericForm) (cs : Bor (List (Vec ℕ Global))) (e : EncodeError) → IsNotEncodedOf form (Containers cs) e
+    → (e ≡ OutOfMemory) ⊎ ((e ≡ TooLarge) × ¬ IsSmall (length cs.now) (child_items (map (λ c. c.items) cs.now) 0))
+children_unlaid form cs e (inl r) = absurd r
+children_unlaid form cs e (inr (gs, are, inl m)) = inl m
+children_unlaid form cs e (inr (gs, are, inr (l, big))) = inr (
+  l,
+  λ small. big (subst (λ (hs : List Placed). IsSmall (length cs.now) (placed hs 0)) (sym are)
+      (subst (λ (xs : List Item). IsSmall (length cs.now) xs) (sym (children_placed cs.now 0)) small)),
+)
+
+pub children_large : (form : NumericForm) (cs : Bor (List (Vec ℕ Global))) → IsNotEncodedOf form (Containers cs) TooLarge
+    → ¬ IsSmall (length cs.now) (child_items (map (λ c. c.items) cs.now) 0)
+children_large form cs h = elim (children_unlaid form cs TooLarge h) [ inl m ↦ absurd (apart m) | inr l ↦ l.1 ]
+  where
+    apart : TooLarge ≡ OutOfMemory → ⊥
+    apart e = cc
+
+pub children_causes : (form : NumericForm) (cs : Bor (List (Vec ℕ Global))) (e : EncodeError) → IsNotEncodedOf form (Containers cs) e
+    → (e ≡ TooLarge) ⊎ (e ≡ OutOfMemory)
+children_causes form cs e h = elim (children_unlaid form cs e h) [ inl m ↦ inr m | inr l ↦ inl l.0 ]

@@ -18,7 +18,7 @@ use Rattle.json_exact.proofs.NarrowLaws.{narrow_more, narrow_back, wide_group}
 use Rattle.json_exact.proofs.SignLaws.{sign_times}
 use Rattle.json_exact.proofs.WorthLaws.{parts_pos}
 use Rattle.json_exact.specs.inner.DecimalInverseLaws.{ten_pos}
-use Rattle.jsonb_encode.specs.Number.{fraction_groups, magnitude, groups, group_count, lift, trimmed, header, head, varlena, numeric, fits}
+use Rattle.jsonb_encode.specs.Number.{fraction_groups, magnitude, groups, group_count, lift, trimmed, header, is_short, head, varlena, body, numeric, fits}
 use Rattle.jsonb_encode.specs.declared.number_form.NumericForm.{NumericForm}
 use Rattle.jsonb_encode.specs.declared.number_form.NumericForm.TheVariants.{Short, Long, ShortVarlena}
 use Rattle.jsonb_layout.specs.declared.header.Header.{Header}
@@ -196,7 +196,8 @@ header_dscale w h e = ap (λ (x : Header). x.dscale) e
 pub fits_short : (form : NumericForm) (w : Decimal) → IsTrue (fits form w) → form ≡ ShortVarlena → w.places < 64
 unfolding fits header
 fits_short ShortVarlena w h e =
-    let t = and_parts (ltb w.places 64 && leb (2 ^ 15 - 64) (lift w)) (ltb (lift w) (2 ^ 15 + 64)) h in
+    let s = and_parts (is_short (header w)) (ltb (length (body ShortVarlena w)) 127) h in
+    let t = and_parts (ltb w.places 64 && leb (2 ^ 15 - 64) (lift w)) (ltb (lift w) (2 ^ 15 + 64)) s.0 in
     ltb-true w.places 64 (and_parts (ltb w.places 64) (leb (2 ^ 15 - 64) (lift w)) t.0).0
 fits_short Short w h e = absurd cc
 fits_short Long w h e = absurd cc

@@ -67,7 +67,7 @@ scalar_stands : (f : NumericForm) (s : Scalar) (at : ℕ) → ScalarIsExact s �
 scalar_stands f null at h fit = (refl, refl)
 scalar_stands f (boolean b) at h fit = (refl, refl)
 scalar_stands f (string s) at h fit = (refl, refl)
-scalar_stands f (number d) at h fit = (refl, (numeric f d, refl, number_stands f d h.0 h.1 fit))
+scalar_stands f (number d) at h fit = (refl, (numeric f d, refl, number_stands f d h fit))
 
 array_laid : (f : NumericForm) (ts : Elements) → AreSmall f (array ts) → Laid (container Array (count_elements ts) (array_items f ts)) Array (array_items f ts)
 array_laid f ts small = record {

@@ -1,5 +1,7 @@
 pub mod Number
 pub mod Encoded
 pub mod Limits
+pub mod Literals
+pub mod Children
 pub mod Varlena
 pub mod inner

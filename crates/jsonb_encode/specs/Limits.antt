@@ -1,7 +1,6 @@
--- When a tree has bytes in a form, and what is true of the tree of each value in memory. The limits of a container are the
+-- When a tree has bytes in a form, and what is true of the tree of each value in memory, and of that of number literals. The limits of a container are the
 -- layout's (PostgreSQL, `jsonb.h`: JB_CMASK, JENTRY_OFFLENMASK); those of numbers are this project's own.
 use Rattle.std.specs.Prelude.{ℕ, ◌^◌, ◌<◌, Bool, true, ◌&&◌, List, length}
-use Rattle.json_model.specs.Decimal.{IsNarrow}
 use Rattle.json_model.specs.Rising.{KeysRise}
 use Rattle.json_model.specs.Tree.{Scalar, null, boolean, number, string, Tree, scalar, array, object, Elements, no_elements, element, Members, no_members, member}
 use Rattle.json_exact.specs.Parsed.{IsInRange}
@@ -62,11 +61,11 @@ IsWithinLimits f (object ms) = AreSmall f (object ms)
 
 -- ---- values in memory
 
--- narrow, below 10 ^ 131072, and with at most 16383 fraction digits
+-- below 10 ^ 131072, and with at most 16383 fraction digits, however many digits it has
 abbrev pub ScalarIsExact : Scalar → Type 0
 ScalarIsExact null = Unit {0}
 ScalarIsExact (boolean b) = Unit {0}
-ScalarIsExact (number d) = IsNarrow d × IsInRange d
+ScalarIsExact (number d) = IsInRange d
 ScalarIsExact (string s) = Unit {0}
 
 abbrev mutual
@@ -83,7 +82,7 @@ abbrev mutual
   MembersHaveExactNumbers no_members = Unit {0}
   MembersHaveExactNumbers (member k t ms) = HasExactNumbers t × MembersHaveExactNumbers ms
 
--- what is true of the tree of each value
+-- what is true of the tree of each value, and of one whose numbers are those of literals
 pub record IsOfValue (t : Tree) : Type 0 where
   pub rise : KeysRise t
   pub exact : HasExactNumbers t

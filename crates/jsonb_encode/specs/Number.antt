@@ -79,8 +79,9 @@ body form d = head form (header d) ++ flat_map (to_le_bytes w16) (groups d)
 unfoldable pub numeric : NumericForm → Decimal → List ℕ
 numeric form d = varlena form (body form d)
 
--- whether a number has the form
+-- Whether a number has the form. That of one size byte has the short header, and its size, which the byte holds, is below 128.
+-- The second never fails for a narrow number: it has at most 11 groups.
 unfoldable pub fits : NumericForm → Decimal → Bool
 fits Short d = true
 fits Long d = true
-fits ShortVarlena d = is_short (header d)
+fits ShortVarlena d = is_short (header d) && nat_lt (length (body ShortVarlena d)) 127

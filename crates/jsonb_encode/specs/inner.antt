@@ -1,2 +1,4 @@
 -- What a user need not believe: words for the code.
+pub mod Contents
+pub mod Wide
 pub mod Writing

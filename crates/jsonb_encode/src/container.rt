@@ -1,32 +1,18 @@
 //! Containers of other things than values.
 
-ghost use Rattle.std.specs.Prelude.{◌≡◌, ◌⊎◌, ◌^◌, ◌≤◌, ◌<◌, Err, IfOk, IfErr, length};
+ghost use Rattle.std.specs.Prelude.{◌≡◌, ◌⊎◌, ◌^◌, ◌≤◌, ◌<◌, Err, IfOk, IfErr, length, map};
 ghost use Rattle.json_model.specs.Tree.{scalar, null, object, member, no_members};
 ghost use Rattle.jsonb_layout.specs.Stands.{Stands};
 ghost use Rattle.jsonb_encode.specs.Encoded.{canonical};
-ghost use Rattle.jsonb_encode.specs.inner.Writing.{IsKeyAlone};
+ghost use Rattle.jsonb_encode.specs.Children.{child_items};
+ghost use Rattle.jsonb_encode.specs.Limits.{IsSmall};
+ghost use Rattle.jsonb_layout.specs.Layout.{Laid};
+ghost use Rattle.jsonb_layout.specs.declared.form.Form.{Form};
 
-use crate::buffer::push_all;
-use crate::entries::{close_item, open_container};
+use crate::contents::Contents;
 use crate::error::EncodeError;
-use crate::kind::Kind;
-use jsonb_layout::Form;
+use crate::number_form::NumericForm;
 use std::alloc::Global;
-
-/// Writes an object of one member: a key that is any bytes, and null.
-fn write_raw_key(bytes: &mut Vec<u8>, key: &[u8]) -> Result<(), EncodeError>
-    ensures ok { IfOk result (λ _. IsKeyAlone key.now bytes.old.items bytes.new.items) }
-    ensures err { IfErr result (λ e. (e ≡ EncodeError.OutOfMemory)
-        ⊎ ((e ≡ EncodeError.TooLarge) × (2 ^ 28 ≤ length key.now))) }
-{
-    let start = bytes.len();
-    open_container(bytes, Form::Object, 1, 2)?;
-    let begin = bytes.len();
-    push_all(bytes, key)?;
-    close_item(bytes, start, 2, 0, begin, Kind::String)?;
-    let end = bytes.len();
-    close_item(bytes, start, 2, 1, end, Kind::Null)
-}
 
 /// The bytes of an object whose one key is as given, UTF-8 or not, with null under it. They stand for that raw tree.
 ///
@@ -38,9 +24,21 @@ pub fn encode_raw_key_object(alloc: Global, key: &[u8]) -> Result<Vec<u8>, Encod
     ensures too_large { result ≡ Err EncodeError.TooLarge → 2 ^ 28 ≤ length key.now }
     ensures causes { IfErr result (λ e. (e ≡ EncodeError.TooLarge) ⊎ (e ≡ EncodeError.OutOfMemory)) }
 {
-    let mut bytes = Vec::new(alloc);
-    match write_raw_key(&mut bytes, key) {
-        Ok(()) => Ok(bytes),
-        Err(error) => Err(error),
-    }
+    let contents = Contents::KeyAndNull(key);
+    contents.encode(alloc, NumericForm::Short)
+}
+
+/// The bytes of an array whose elements are containers that are given by their bytes. These are not checked: each is written
+/// behind the zeros that bring it to a multiple of four.
+///
+/// `TooLarge` comes only where there are 2^28 containers or more, or the payload would have 2^28 bytes or more, and no other answer
+/// but want of memory comes then.
+pub fn encode_array_of(alloc: Global, children: &[Vec<u8>]) -> Result<Vec<u8>, EncodeError>
+    ensures laid { IfOk result (λ b. Laid b.items Form.Array (child_items (map (λ c. c.items) children.now) 0)) }
+    ensures too_large { result ≡ Err EncodeError.TooLarge
+        → ¬ IsSmall (length children.now) (child_items (map (λ c. c.items) children.now) 0) }
+    ensures causes { IfErr result (λ e. (e ≡ EncodeError.TooLarge) ⊎ (e ≡ EncodeError.OutOfMemory)) }
+{
+    let contents = Contents::Containers(children);
+    contents.encode(alloc, NumericForm::Short)
 }

@@ -8,13 +8,18 @@ ghost use Rattle.jsonb_layout.specs.Numeric.{Numeric};
 ghost use Rattle.jsonb_layout.specs.Stands.{Stands};
 ghost use Rattle.jsonb_encode.specs.Encoded.{encoded, canonical};
 ghost use Rattle.jsonb_encode.specs.Limits.{all_fit, IsWithinLimits, IsOfValue};
-ghost use Rattle.jsonb_encode.specs.Number.{numeric, fits};
+ghost use Rattle.jsonb_encode.specs.Number.{header, is_short, numeric, fits};
 ghost use Rattle.jsonb_encode.specs.declared.number_form.NumericForm.{NumericForm};
-ghost use Rattle.jsonb_encode.specs.declared.number_form.NumericForm.TheVariants.{Short};
+ghost use Rattle.jsonb_encode.specs.declared.number_form.NumericForm.TheVariants.{Short, ShortVarlena};
 
-/// The bytes of a narrow number in range, in a form that it has, stand for it in the layout's grammar.
+/// The bytes of a number in range, in a form that it has, stand for it in the layout's grammar, however many digits it has.
 pub fn numbers_stand()
-    ensures { (f : NumericForm) (d : Decimal) → IsNarrow d → IsInRange d → IsTrue (fits f d) → Numeric (numeric f d) d }
+    ensures { (f : NumericForm) (d : Decimal) → IsInRange d → IsTrue (fits f d) → Numeric (numeric f d) d }
+{}
+
+/// Of a narrow number, as each number of a value is, the short header alone decides whether it has the form of one size byte.
+pub fn narrow_numbers_fit()
+    ensures { (d : Decimal) → IsNarrow d → fits ShortVarlena d ≡ is_short (header d) }
 {}
 
 /// The bytes of a tree stand for it in the layout's grammar, where it is the tree of a value, its numbers have the form and its

@@ -1,4 +1,4 @@
-//! Bytes of PostgreSQL's `jsonb` that stand for a JSON value in memory.
+//! Bytes of PostgreSQL's `jsonb` that stand for a JSON value in memory, or for number literals of any number of digits.
 //!
 //! [`encode`] gives the bytes that PostgreSQL stores for a value: the one byte string of its canonical form. [`encode_with`] writes
 //! its numbers in one of three forms, a [`NumericForm`]. Both keep the fraction digits that are written: `1` and `1.0` have
@@ -8,6 +8,9 @@
 //! encode(alloc, &one_point_zero)?;                              // 01000050 08000090 20000000 8080 0100, in hex
 //! encode_with(alloc, &one, NumericForm::Long)?;                 // 01000050 0a000090 28000000 0000 0000 0100
 //! encode_with(alloc, &one, NumericForm::ShortVarlena)?;         // 01000050 05000090 0b 0080 0100
+//! encode_numeric(alloc, "1e131071", NumericForm::Short)?;         // 28000000 0000 ff7f e803: the number alone
+//! encode_numeric_text_scalar(alloc, "1.0", NumericForm::Short)?;  // as the first of these
+//! encode_array_of(alloc, &[child, child])?;                     // 02000040, two words, and each child's bytes
 //! to_hex(alloc, &bytes)?;                                       // two digits for each byte
 //! strip_varlena(&stored)?;                                      // the bytes behind a stored value's header
 //! ```
@@ -18,15 +21,19 @@
 //! come first, in order of length and then of bytes, as a `Map` keeps them. Numbers and containers are at the next 4-byte place,
 //! behind zero bytes. [`EncodeError`] says what is refused.
 //!
+//! A value's numbers have at most 38 digits. Literals may have any number: PostgreSQL stores them, and a reader with narrower
+//! numbers must tell them apart from what is damaged.
+//!
 //! The writer goes from left to right into one buffer: it writes empty words for the items of a container, and sets each behind its
 //! piece. It takes memory for the bytes alone.
 //!
 //! What the bytes are is said in `specs/`: `Number` for a number in a form, `Encoded` for a tree, `Limits` for when a tree has
-//! bytes, `Varlena` for a stored value's header. [`laws`] says that they stand for what they are made of.
+//! bytes, `Literals` for which texts have, `Children` for an array of containers, `Varlena` for a stored value's header. [`laws`] says that they stand for what they are made of.
 #![tactic(auto)]
 
 mod buffer;
 mod container;
+mod contents;
 mod encoding;
 mod entries;
 mod error;
@@ -36,14 +43,21 @@ mod kind;
 pub mod laws;
 mod number;
 mod number_form;
+mod numeral;
+mod text_encoding;
 mod varlena;
+mod wide_number;
 mod writer;
 
-pub use container::encode_raw_key_object;
+pub use container::{encode_array_of, encode_raw_key_object};
 pub use encoding::{encode, encode_with};
 pub use error::EncodeError;
 pub use hex_text::to_hex;
 pub use number_form::NumericForm;
+pub use numeral::encode_numeric;
+pub use text_encoding::{
+    encode_numeric_text_array, encode_numeric_text_object, encode_numeric_text_scalar,
+};
 pub use varlena::{VarlenaError, strip_varlena};
 
 /// The flag of a header that marks an array of one item as a root scalar.

@@ -11,7 +11,7 @@ ghost use Rattle.jsonb_encode.specs.inner.Writing.{lead, groups_down};
 use crate::buffer::{push_all, push_half, push_word};
 use crate::error::EncodeError;
 use crate::number_form::NumericForm;
-use json_exact::{Decimal, Number};
+use json_exact::{Decimal, Number, laws};
 use jsonb_layout::Header;
 
 /// The groups of a decimal that are written: so many, from a place downwards.
@@ -86,17 +86,19 @@ fn header_of(number: &Number) -> Header
 }
 
 /// Whether the short header holds the weight and the fraction digits.
-fn is_short(header: Header) -> bool
+pub fn is_short(header: Header) -> bool
     ensures { result ≡ is_short header }
 {
     header.dscale < 64 && 0x7fc0 <= header.lift && header.lift < 0x8040
 }
 
-/// Whether a number has a form.
+/// Whether a number has a form. A number of a value has few groups, so the size byte always holds its size.
 #[tactic(auto, unfolding(crate::specs::Number::fits))]
 pub fn number_fits(number: &Number, form: NumericForm) -> bool
     ensures { result ≡ fits form number.now }
 {
+    let decimal = number.decimal();
+    laws::decimals_are_within_limits(&decimal);
     match form {
         NumericForm::Short | NumericForm::Long => true,
         NumericForm::ShortVarlena => is_short(header_of(number)),
@@ -166,7 +168,7 @@ pub fn push_lead(
     requires few { header.dscale < 2 ^ 14 }
     requires fits { form ≡ NumericForm.ShortVarlena → header.dscale < 64 }
     requires count { count < 2 ^ 20 }
-    requires small { form ≡ NumericForm.ShortVarlena → count < 62 }
+    requires small { form ≡ NumericForm.ShortVarlena → count ≤ 62 }
     ensures ok { IfOk result (λ _. bytes.new.items ≡ bytes.old.items ++ lead form header count) }
     ensures err { IfErr result (λ e. e ≡ EncodeError.OutOfMemory) }
 {

@@ -1,7 +1,6 @@
 //! Values, written from left to right.
 
 ghost use Rattle.std.specs.Prelude.{◌≡◌, ◌-◌, ◌≤◌, ◌++◌, length, map, IfOk, IfErr, IsTrue};
-ghost use Rattle.json_model.specs.Decimal.{IsNarrow};
 ghost use Rattle.json_model.specs.Parts.{elements_from, members_from};
 ghost use Rattle.json_model.specs.Tree.{array, object};
 ghost use Rattle.json_exact.specs.Trees.{tree, pairs};
@@ -19,11 +18,11 @@ use crate::number_form::NumericForm;
 use json_exact::{Map, Number, Value, laws};
 use jsonb_layout::Form;
 
-/// Writes a number, and learns that it is exact.
+/// Writes a number, and learns that it is in range.
 fn write_number(bytes: &mut Vec<u8>, number: &Number, form: NumericForm) -> Result<(), EncodeError>
     requires { IsTrue (fits form number.now) }
     ensures ok { IfOk result (λ _. bytes.new.items ≡ bytes.old.items ++ numeric form number.now) }
-    ensures exact { IsNarrow number.now × IsInRange number.now }
+    ensures exact { IsInRange number.now }
     ensures err { IfErr result (λ e. e ≡ EncodeError.OutOfMemory) }
 {
     let decimal = number.decimal();

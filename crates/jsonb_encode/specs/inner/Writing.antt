@@ -114,8 +114,3 @@ pub record IsRoot (form : NumericForm) (t : Tree) (before after : List ℕ) : Ty
 
 abbrev pub IsNoRoot : NumericForm → Tree → EncodeError → Type 0
 IsNoRoot form t e = (e ≡ OutOfMemory) ⊎ ((e ≡ TooLarge) × ¬ IsWithinLimits form t)
-
--- an object of one key, with null under it, is written
-pub record IsKeyAlone (key before after : List ℕ) : Type 0 where
-  pub bytes : after ≡ before ++ encoded Short (object (member key (scalar null) no_members))
-  pub within : length key < 2 ^ 28

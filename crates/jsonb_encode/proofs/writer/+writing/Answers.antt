@@ -306,7 +306,7 @@ write_value-returns-in_ok-write_number-in-Number-clause-ok t c =
     let w = c.in_ok-write_number-in-Number.ensures in
     let mid = padded c.args.payload c.len.result b c.push_padding.new.bytes.items (omega (arith, c.len.ensures)) c.in_ok-push_padding-in-Number.ensures.ok in
     subst (λ (u : Tree). IsWritten c.args.form u (length b - c.args.payload) b c.write_number.new.bytes.items 1) (sym (ap tree c.in-Number.is ∙ tree-number c.in-Number.number))
-    (wrote_number c.args.form c.in-Number.number (length b - c.args.payload) b c.push_padding.new.bytes.items c.write_number.new.bytes.items mid w.ok w.exact.0 w.exact.1)
+    (wrote_number c.args.form c.in-Number.number (length b - c.args.payload) b c.push_padding.new.bytes.items c.write_number.new.bytes.items mid w.ok w.exact)
 
 pub write_value-returns-in_ok-write_elements-in-Array-clause-ok : goal.write_value-returns-in_ok-write_elements-in-Array-clause-ok
 write_value-returns-in_ok-write_elements-in-Array-clause-ok t c =

@@ -8,3 +8,5 @@ pub mod Roots
 pub mod NumberStands
 pub mod TreeStands
 pub mod RawKeys
+pub mod Canonical
+pub mod CanonicalValues

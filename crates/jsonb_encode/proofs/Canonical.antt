@@ -60,14 +60,20 @@ head_small d = go (is_short (header d))
     go true = omega arith
     go false = omega arith
 
--- the canonical bytes of a number stand for it
+body_small : (d : Decimal) → IsInRange d → length (body Short d) < 2 ^ 20
+body_small d range =
+    let size = length-append (head Short (header d)) (flat_map (to_le_bytes w16) (groups d)) in
+    omega (arith, size, head_small d, halves_length (groups d), groups_counted d, few_groups d range)
+
+-- the canonical bytes of a number are few
+pub number_small : (d : Decimal) → IsInRange d → length (numeric Short d) < 2 ^ 21
+unfolding numeric
+number_small d range = omega (arith, body_small d range)
+
+-- and stand for it
 pub number_stands : (d : Decimal) → IsInRange d → Numeric (numeric Short d) d
 unfolding fits
-number_stands d range =
-    let size = length-append (head Short (header d)) (flat_map (to_le_bytes w16) (groups d)) in
-    let long : length (body Short d) < 2 ^ 20 =
-    omega (arith, size, head_small d, halves_length (groups d), groups_counted d, few_groups d range) in
-    stands_by Short d range refl long (λ e. absurd cc)
+number_stands d range = stands_by Short d range refl (body_small d range) (λ e. absurd cc)
 
 -- ---- canonical bytes stand
 

@@ -10,3 +10,4 @@ pub mod TreeStands
 pub mod RawKeys
 pub mod Canonical
 pub mod CanonicalValues
+pub mod CanonicalSeats

@@ -6,6 +6,7 @@ use Rattle.json_model.specs.Decimal.{Decimal}
 use Rattle.json_model.specs.Tree.{Scalar, null, boolean, number, string, Tree, scalar, array, object, Elements, no_elements, element, Members, no_members, member, keys}
 use Rattle.json_exact.specs.Parsed.{IsInRange}
 use Rattle.jsonb_layout.specs.Layout.{Item, Laid}
+use Rattle.jsonb_layout.specs.Seats.{Seat}
 use Rattle.jsonb_layout.specs.Stands.{IsPadded, IsArray, IsObject}
 use Rattle.jsonb_layout.specs.declared.form.Form.TheVariants.{Lone}
 use Rattle.jsonb_encode.specs.Number.{numeric}
@@ -48,3 +49,13 @@ abbrev pub IsCanonical : List ℕ → Tree → Type 0
 IsCanonical b (scalar s) = (x : Item) × Laid b Lone (x ∷ []) × IsCanonicalScalar s 0 x
 IsCanonical b (array ts) = IsArray (AreCanonicalElements ts) b
 IsCanonical b (object ms) = IsObject (keys ms) (AreCanonicalValues ms) b
+
+-- ---- a value that lies in a slice
+
+-- The own bytes of a value are canonical for the tree: as an item they have no padding.
+abbrev pub SeatIsCanonical : Seat → Tree → Type 0
+SeatIsCanonical s t = IsCanonicalItem t 0 (record { kind = s.kind; piece = s.bytes })
+
+-- They are canonical for some tree, which is the one that they stand for.
+abbrev pub HasCanonicalBytes : Seat → Type 0
+HasCanonicalBytes s = (t : Tree) × SeatIsCanonical s t

@@ -12,3 +12,6 @@ pub mod TreeStands
 pub mod RawKeys
 pub mod ContentsLaws
 pub mod TextBytes
+pub mod Canonical
+pub mod CanonicalValues
+pub mod CanonicalSeats

@@ -1,5 +1,6 @@
 pub mod Number
 pub mod Encoded
+pub mod Canonical
 pub mod Limits
 pub mod Literals
 pub mod Children

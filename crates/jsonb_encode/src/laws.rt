@@ -1,11 +1,12 @@
 //! Laws of the bytes of trees. The functions do nothing: their contracts are what they are for.
 
-ghost use Rattle.std.specs.Prelude.{◌≡◌, ◌↔◌, IsTrue};
+ghost use Rattle.std.specs.Prelude.{◌≡◌, ◌↔◌, ℕ, List, IsTrue};
 ghost use Rattle.json_model.specs.Decimal.{Decimal, IsNarrow};
 ghost use Rattle.json_model.specs.Tree.{Tree};
 ghost use Rattle.json_exact.specs.Parsed.{IsInRange};
 ghost use Rattle.jsonb_layout.specs.Numeric.{Numeric};
 ghost use Rattle.jsonb_layout.specs.Stands.{Stands};
+ghost use Rattle.jsonb_encode.specs.Canonical.{IsCanonical};
 ghost use Rattle.jsonb_encode.specs.Encoded.{encoded, canonical};
 ghost use Rattle.jsonb_encode.specs.Limits.{all_fit, IsWithinLimits, IsOfValue};
 ghost use Rattle.jsonb_encode.specs.Number.{header, is_short, numeric, fits};
@@ -32,4 +33,20 @@ pub fn encoded_bytes_stand()
 pub fn canonical_bytes_tell_trees_apart()
     ensures { (t u : Tree) → IsOfValue t → IsOfValue u → IsWithinLimits Short t → IsWithinLimits Short u
         → ((canonical t ≡ canonical u) ↔ (t ≡ u)) }
+{}
+
+/// One byte string at most is canonical for a tree: the one that is written.
+pub fn canonical_bytes_are_one()
+    ensures one { (t : Tree) (b c : List ℕ) → IsCanonical b t → IsCanonical c t → b ≡ c }
+    ensures written { (t : Tree) (b : List ℕ) → IsCanonical b t → b ≡ canonical t }
+{}
+
+/// Canonical bytes stand for their tree in the layout's grammar. So, as no bytes stand for two trees, they are canonical for one.
+pub fn canonical_bytes_stand()
+    ensures { (t : Tree) (b : List ℕ) → IsCanonical b t → Stands b t }
+{}
+
+/// The tree of each value whose containers are within the limits has canonical bytes: those that `encode` gives.
+pub fn values_have_canonical_bytes()
+    ensures { (t : Tree) → IsOfValue t → IsWithinLimits Short t → IsCanonical (canonical t) t }
 {}

@@ -77,7 +77,8 @@ pub not_smaller : (i : ℕ) (gs : List Placed) (g : Placed) (from at : ℕ) → 
     → length (pieces (placed (take i gs) from)) + length (g at).piece ≤ length (pieces (placed gs from))
 not_smaller i [] g from at h e = absurd h
 not_smaller zero (k ∷ gs) g from at h e =
-    let same : length (g at).piece ≡ length (k from).piece = ap (λ (x : Placed). length (x at).piece) (sym h) ∙ ap (λ (m : ℕ). length (k m).piece) (let t : at ≡ from = omega arith in t) in
+    let same : length (g at).piece ≡ length (k from).piece = ap (λ (x : Placed). length (x at).piece) (sym h)
+    ∙ ap (λ (m : ℕ). length (k m).piece) (let t : at ≡ from = omega arith in t) in
     let all = length-append (k from).piece (pieces (placed gs (from + length (k from).piece))) in
     omega arith
 not_smaller (suc i) (k ∷ gs) g from at h e =
@@ -124,7 +125,8 @@ items_few (KeyAndNumeral k t) = omega arith
 items_few (KeyAndNull k) = omega arith
 
 -- the literal of a place writes the number of it
-pub numeral_at : (form : NumericForm) (ts : List (Text Global)) (ws : List Decimal) (i : ℕ) (d : Text Global) (g : Placed) → AreNumerals form (map string_bytes ts) ws
+pub numeral_at : (form : NumericForm) (ts : List (Text Global)) (ws : List Decimal) (i : ℕ) (d : Text Global) (g : Placed)
+    → AreNumerals form (map string_bytes ts) ws
     → IsAt i (map (numeral_item form) ws) g → (w : Decimal) × IsNumeral form (string_bytes (get_or ts i d)) w × (numeral_item form w ≡ g)
 numeral_at form [] [] i d g h k = absurd k
 numeral_at form [] (w ∷ ws) i d g h k = absurd h
@@ -150,11 +152,13 @@ at_second gs hs k m g (suc (suc i)) e ne lt h = absurd (omega arith)
 abbrev pub Told : Result Kind EncodeError → Placed → ℕ → List ℕ → List ℕ → Type 0
 Told r g at before after = MatchResult r (λ kind. IsItemWritten (g at) before after (kind_number kind)) (λ e. e ≡ OutOfMemory)
 
-pub told_as : (r : Result Kind EncodeError) (h g : Placed) (at : ℕ) (before after : List ℕ) → h ≡ g → Told r h at before after → Told r g at before after
+pub told_as : (r : Result Kind EncodeError) (h g : Placed) (at : ℕ) (before after : List ℕ) → h ≡ g → Told r h at before after
+    → Told r g at before after
 told_as r h g at before after e t = subst (λ (k : Placed). Told r k at before after) e t
 
 -- an error that is handed on
-pub err_told_as : {A : Type 0} (r : Result A EncodeError) (e : EncodeError) (P : A → Type 0) (Q : EncodeError → Type 0) → r ≡ Err e → Q e → MatchResult r P Q
+pub err_told_as : {A : Type 0} (r : Result A EncodeError) (e : EncodeError) (P : A → Type 0) (Q : EncodeError → Type 0) → r ≡ Err e → Q e
+    → MatchResult r P Q
 err_told_as r e P Q h q = rw h q
 
 -- ---- texts
@@ -169,7 +173,8 @@ pub taken_texts : (ts : List (Text Global)) (i : ℕ) (d : Text Global) → i < 
     → take i (map string_bytes ts) ++ string_bytes (get_or ts i d) ∷ [] ≡ take (i + 1) (map string_bytes ts)
 taken_texts ts i d lt = go ts i lt ∙ ap (λ (k : ℕ). take k (map string_bytes ts)) (let e : suc i ≡ i + 1 = omega arith in e)
   where
-    go : (ts : List (Text Global)) (i : ℕ) → i < length ts → take i (map string_bytes ts) ++ string_bytes (get_or ts i d) ∷ [] ≡ take (suc i) (map string_bytes ts)
+    go : (ts : List (Text Global)) (i : ℕ) → i < length ts → take i (map string_bytes ts) ++ string_bytes (get_or ts i d) ∷ [] ≡ take (suc i)
+        (map string_bytes ts)
     go [] i lt = absurd (omega arith)
     go (t ∷ ts) zero lt = refl
     go (t ∷ ts) (suc i) lt = ap (λ (xs : List (List ℕ)). string_bytes t ∷ xs) (go ts i (omega arith))
@@ -181,7 +186,8 @@ all_texts (t ∷ ts) zero le = absurd (omega arith)
 all_texts (t ∷ ts) (suc i) le = ap (λ (xs : List (List ℕ)). string_bytes t ∷ xs) (all_texts ts i (omega arith))
 
 -- one numeral more
-pub numerals_more : (form : NumericForm) (ts : List (List ℕ)) (ws : List Decimal) (t : List ℕ) (w : Decimal) → AreNumerals form ts ws → IsNumeral form t w
+pub numerals_more : (form : NumericForm) (ts : List (List ℕ)) (ws : List Decimal) (t : List ℕ) (w : Decimal) → AreNumerals form ts ws
+    → IsNumeral form t w
     → AreNumerals form (ts ++ t ∷ []) (ws ++ w ∷ [])
 numerals_more form [] [] t w h k = (k, tt)
 numerals_more form [] (v ∷ ws) t w h k = absurd h
@@ -189,7 +195,8 @@ numerals_more form (s ∷ ts) [] t w h k = absurd h
 numerals_more form (s ∷ ts) (v ∷ ws) t w h k = (h.0, numerals_more form ts ws t w h.1 k)
 
 -- behind numerals the first text that is refused
-pub refused_behind : (form : NumericForm) (ts us : List (List ℕ)) (ws : List Decimal) (t : List ℕ) (e : EncodeError) → AreNumerals form ts ws → IsRefused form t e
+pub refused_behind : (form : NumericForm) (ts us : List (List ℕ)) (ws : List Decimal) (t : List ℕ) (e : EncodeError) → AreNumerals form ts ws
+    → IsRefused form t e
     → AreRefused form (ts ++ t ∷ us) e
 refused_behind form [] us [] t e h r = inl r
 refused_behind form [] us (w ∷ ws) t e h r = absurd h
@@ -248,15 +255,18 @@ refusal {A} (Err f) P form c e (inr h) memory large = (
     inside g = cc
 
 -- what is known of an answer
-pub ok_part : {A : Type 0} (r : Result A EncodeError) (P : A → Type 0) (Q : EncodeError → Type 0) (R : A → Type 0) → MatchResult r P Q → ((a : A) → P a → R a) → IfOk r R
+pub ok_part : {A : Type 0} (r : Result A EncodeError) (P : A → Type 0) (Q : EncodeError → Type 0) (R : A → Type 0) → MatchResult r P Q
+    → ((a : A) → P a → R a) → IfOk r R
 ok_part (Ok a) P Q R h f = f a h
 ok_part (Err e) P Q R h f = tt
 
-pub err_part : {A : Type 0} (r : Result A EncodeError) (P : A → Type 0) (Q R : EncodeError → Type 0) → MatchResult r P Q → ((e : EncodeError) → Q e → R e) → IfErr r R
+pub err_part : {A : Type 0} (r : Result A EncodeError) (P : A → Type 0) (Q R : EncodeError → Type 0) → MatchResult r P Q
+    → ((e : EncodeError) → Q e → R e) → IfErr r R
 err_part (Ok a) P Q R h f = tt
 err_part (Err e) P Q R h f = f e h
 
-pub err_is : {A : Type 0} (r : Result A EncodeError) (P : A → Type 0) (Q : EncodeError → Type 0) (e : EncodeError) → MatchResult r P Q → r ≡ Err e → Q e
+pub err_is : {A : Type 0} (r : Result A EncodeError) (P : A → Type 0) (Q : EncodeError → Type 0) (e : EncodeError) → MatchResult r P Q
+    → r ≡ Err e → Q e
 err_is {A} r P Q e h same = subst (λ (x : Result A EncodeError). MatchResult x P Q) same h
 
 -- ---- contents whose texts are checked
@@ -283,8 +293,10 @@ pub checked_member : {A : Type 0} (r : Result A EncodeError) (form : NumericForm
 checked_member (Ok a) form k t h = (key_at k.now ∷ numeral_item form h.0 ∷ [], (h.0, h.1, refl))
 checked_member (Err e) form k t h = h
 
-pub checked_containers : (form : NumericForm) (c : Contents) (cs : Bor (List (Vec ℕ Global))) → c ≡ Containers cs → (gs : List Placed) × AreOf form c gs
-checked_containers form c cs e = subst (λ (x : Contents). (gs : List Placed) × AreOf form x gs) (sym e) (map (λ (v : Vec ℕ Global). child_item v.items) cs.now, refl)
+pub checked_containers : (form : NumericForm) (c : Contents) (cs : Bor (List (Vec ℕ Global))) → c ≡ Containers cs
+    → (gs : List Placed) × AreOf form c gs
+checked_containers form c cs e = subst (λ (x : Contents). (gs : List Placed) × AreOf form x gs) (sym e)
+    (map (λ (v : Vec ℕ Global). child_item v.items) cs.now, refl)
 
 pub checked_null : (form : NumericForm) (c : Contents) (k : Bor (List ℕ)) → c ≡ KeyAndNull k → (gs : List Placed) × AreOf form c gs
 checked_null form c k e = subst (λ (x : Contents). (gs : List Placed) × AreOf form x gs) (sym e) (key_at k.now ∷ null_at ∷ [], refl)

@@ -91,7 +91,8 @@ unfolding fits
 short_kept n w k h e =
     ap (λ (b : Bool). b && leb k 62) (ap is_short h.header)
     ∙ ap (λ (b : Bool). is_short (header w) && b)
-    (byte_room k ∙ ap (λ (m : ℕ). ltb m 127) (let t = body_length ShortVarlena w in let u = one_byte_head (header w) in let v = groups_length n w h in omega arith))
+    (byte_room k ∙ ap (λ (m : ℕ). ltb m 127) (let t = body_length ShortVarlena w in let u = one_byte_head
+    (header w) in let v = groups_length n w h in omega arith))
 
 -- ---- the range
 
@@ -161,13 +162,15 @@ few_groups m n z zt f c le (inl e) h few =
     let x = n * 10 ^ zt in
     let size : n * 10 ^ (z + filling f) ≡ x * 10 ^ filling f = ap (λ (k : ℕ). n * 10 ^ (k + filling f)) e ∙ parted n zt (filling f) in
     let lt : x * 10 ^ filling f < 10 ^ (131072 + f) * 10 ^ filling f =
-    chain _ (10000 ^ c) (10000 ^ (32768 + fraction_groups f)) _ _ h.below (power_mono 10000 c (32768 + fraction_groups f) (omega arith) few) size (all_groups f le) in
+    chain _ (10000 ^ c) (10000 ^ (32768 + fraction_groups f)) _ _ h.below (power_mono 10000 c (32768 + fraction_groups f) (omega arith) few) size
+    (all_groups f le) in
     record {
       in_range = (subst (λ (y : ℕ). y < 10 ^ (131072 + f)) (sym (abs_signed m x)) (lt_of_mul-lt-mul_right (10 ^ filling f) lt), le);
       size = magnitude_is m n zt f ∙ ap (λ (k : ℕ). n * 10 ^ (k + filling f)) (sym e);
     }
 few_groups m n z zt f c le (inr e) h few =
-    let n0 : n ≡ 0 = none_fits n 36864 147456 (filling f) c refl (within f c le few) (subst (λ (k : ℕ). n * 10 ^ (k + filling f) < 10000 ^ c) e.0 h.below) in
+    let n0 : n ≡ 0 = none_fits n 36864 147456 (filling f) c refl (within f c le few)
+    (subst (λ (k : ℕ). n * 10 ^ (k + filling f) < 10000 ^ c) e.0 h.below) in
     subst (λ (k : ℕ). Sized (written m k zt f) (k * 10 ^ (z + filling f))) (sym n0) (record {
       in_range = (
         subst (λ (y : ℕ). y < 10 ^ (131072 + f)) (sym (abs_signed m (0 * 10 ^ zt)))
@@ -191,7 +194,8 @@ pub many_groups : (m : Bool) (n z zt f c : ℕ) → f ≤ 16383 → Raised z zt 
     → IsInRange (written m n zt f) → ⊥
 many_groups m n z zt f c le r h many range =
     let lt : n * 10 ^ zt < 10 ^ (131072 + f) = subst (λ (y : ℕ). y < 10 ^ (131072 + f)) (abs_signed m (n * 10 ^ zt)) range.0 in
-    let first = at_most _ _ _ (power_mono 10000 (32768 + fraction_groups f) (c - 1) (omega arith) (before (32768 + fraction_groups f) c many)) (h.first (some c many)) in
+    let first = at_most _ _ _ (power_mono 10000 (32768 + fraction_groups f) (c - 1) (omega arith) (before (32768 + fraction_groups f) c many))
+    (h.first (some c many)) in
     go r lt first
   where
     before : (k c : ℕ) → k < c → k ≤ c - 1
@@ -254,11 +258,13 @@ times_some (suc n) p h = lt-ltb 0 (suc n * p) (some n p h) ∙ sym (lt-ltb 0 (su
 pub minus_is : (m : Bool) (n z zt f c : ℕ) → IsCount c (n * 10 ^ (z + filling f)) → (m && nat_lt 0 c) ≡ int_lt (written m n zt f).digits (pos 0)
 minus_is m n z zt f c h =
     ap (λ (b : Bool). m && b)
-    (both_some c (n * 10 ^ (z + filling f)) h ∙ times_some n (10 ^ (z + filling f)) (ten_pos (z + filling f)) ∙ sym (times_some n (10 ^ zt) (ten_pos zt)))
+    (both_some c (n * 10 ^ (z + filling f)) h ∙ times_some n (10 ^ (z + filling f)) (ten_pos (z + filling f))
+    ∙ sym (times_some n (10 ^ zt) (ten_pos zt)))
     ∙ sign m (n * 10 ^ zt)
 
 -- the weight
-pub lift_is : (w : Decimal) (c l : ℕ) → IsCount c (magnitude w) → l ≡ (if c == 0 then 2 ^ 15 else (2 ^ 15 + c) - (1 + fraction_groups w.places)) → l ≡ lift w
+pub lift_is : (w : Decimal) (c l : ℕ) → IsCount c (magnitude w) → l ≡ (if c == 0 then 2 ^ 15 else (2 ^ 15 + c) - (1 + fraction_groups w.places))
+    → l ≡ lift w
 lift_is w c l h e = e ∙ go c h
   where
     go : (c : ℕ) → IsCount c (magnitude w) → (if c == 0 then 2 ^ 15 else (2 ^ 15 + c) - (1 + fraction_groups w.places)) ≡ lift w
@@ -276,7 +282,8 @@ kept_as n v w e h = subst (λ (u : Decimal). IsInRange u × IsKept n u) (sym e) 
 -- ---- writing
 
 -- behind a size byte few groups are written
-pub small_kept : (n : Numeral) (form : NumericForm) (w : Decimal) (k : ℕ) → IsKept n w → IsTrue (fits form w) → k ≡ n.count - n.zeros → form ≡ ShortVarlena → k ≤ 62
+pub small_kept : (n : Numeral) (form : NumericForm) (w : Decimal) (k : ℕ) → IsKept n w → IsTrue (fits form w) → k ≡ n.count - n.zeros
+    → form ≡ ShortVarlena → k ≤ 62
 small_kept n ShortVarlena w k h fit e is =
     omega (arith, fits_byte ShortVarlena w fit refl, body_length ShortVarlena w, one_byte_head (header w), groups_length n w h)
 small_kept n Short w k h fit e is = absurd cc
@@ -307,7 +314,8 @@ kept_written n form w k base mid after h e f g =
 pub not_refused : (form : NumericForm) (text : List ℕ) (e : EncodeError) → (w : Decimal) × IsNumeral form text w → IsRefused form text e → ⊥
 not_refused form text NotANumber (w, h) r = r w h.literal
 not_refused form text OutOfRange (w, h) (v, l, out) = out (subst IsInRange (one_literal text w v h.literal l) h.in_range)
-not_refused form text DoesNotFit (w, h) (v, l, range, f) = apart (sym h.fit ∙ ap (λ (u : Decimal). fits form u) (one_literal text w v h.literal l) ∙ f)
+not_refused form text DoesNotFit (w, h) (v, l, range, f) = apart
+    (sym h.fit ∙ ap (λ (u : Decimal). fits form u) (one_literal text w v h.literal l) ∙ f)
   where
     apart : true ≡ false → ⊥
     apart e = cc
@@ -358,6 +366,7 @@ err_told {A} form text f e ne (inr h) = (
     inside g = cc
 
 -- a numeral is not written only for want of memory
-pub only_memory : (form : NumericForm) (text : List ℕ) (e : EncodeError) (w : Decimal) → IsNumeral form text w → IsNotWritten form text e → e ≡ OutOfMemory
+pub only_memory : (form : NumericForm) (text : List ℕ) (e : EncodeError) (w : Decimal) → IsNumeral form text w → IsNotWritten form text e
+    → e ≡ OutOfMemory
 only_memory form text e w h (inl r) = absurd (not_refused form text e (w, h) r)
 only_memory form text e w h (inr k) = k.0

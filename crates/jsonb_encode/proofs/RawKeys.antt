@@ -4,11 +4,11 @@ use Rattle.std.specs.Borrow.{Bor}
 use Rattle.std.specs.List.{AllByRecursion}
 use Rattle.std.proofs.lemmas.Bool.{cases_lt}
 use Rattle.std.proofs.lemmas.List.{length-append}
-use Rattle.json_model.specs.Tree.{scalar, null, object, member, no_members}
+use Rattle.json_model.specs.Tree.{Tree, scalar, null, array, object, Elements, no_elements, element, member, no_members}
 use Rattle.jsonb_layout.specs.Layout.{Item, Laid}
-use Rattle.jsonb_layout.specs.Stands.{Stands}
+use Rattle.jsonb_layout.specs.Stands.{IsItem, AreElements, Stands}
 use Rattle.jsonb_layout.specs.declared.form.Form.TheVariants.{Array}
-use Rattle.jsonb_encode.specs.Children.{child_item, child_items}
+use Rattle.jsonb_encode.specs.Children.{child_item, child_items, IsContainer, AreContainers}
 use Rattle.jsonb_encode.specs.Encoded.{container, item, encoded, canonical}
 use Rattle.jsonb_encode.specs.Limits.{IsSmall, IsWithinLimits}
 use Rattle.jsonb_encode.specs.declared.contents.Contents.TheVariants.{Containers, KeyAndNull}
@@ -38,12 +38,14 @@ key_alone k b h =
     let few : length k.now < 2 ^ 28 = (let l = s.small.1 in omega (arith, length-append k.now [])) in
     record {
       bytes = bytes;
-      stands = subst (λ (x : List ℕ). Stands x t) (sym bytes) (tree_stands Short t (record { rise = (refl, (tt, tt)); exact = (tt, tt) }) refl (within k.now few));
+      stands = subst (λ (x : List ℕ). Stands x t) (sym bytes)
+          (tree_stands Short t (record { rise = (refl, (tt, tt)); exact = (tt, tt) }) refl (within k.now few));
       few = few;
     }
 
 -- a key that is not written is long
-key_long : (k : Bor (List ℕ)) (e : EncodeError) → IsNotEncodedOf Short (KeyAndNull k) e → (e ≡ OutOfMemory) ⊎ ((e ≡ TooLarge) × (2 ^ 28 ≤ length k.now))
+key_long : (k : Bor (List ℕ)) (e : EncodeError) → IsNotEncodedOf Short (KeyAndNull k) e
+    → (e ≡ OutOfMemory) ⊎ ((e ≡ TooLarge) × (2 ^ 28 ≤ length k.now))
 key_long k e (inl r) = absurd r
 key_long k e (inr (gs, are, inl m)) = inl m
 key_long k e (inr (gs, are, inr (l, big))) = inr (
@@ -91,6 +93,23 @@ children_laid form cs b h =
       pieces_fit = (subst (λ (xs : List Item). IsSmall (length cs.now) xs) e s.small).1;
       bytes = s.bytes ∙ ap (λ (xs : List Item). container Array (length cs.now) xs) e;
     }
+
+child_stands : (t : Tree) (c : List ℕ) (at : ℕ) → IsContainer t c → IsItem t at (child_item c at)
+child_stands (scalar s) c at h = absurd h
+child_stands (array ts) c at h = (refl, (c, refl, h))
+child_stands (object ms) c at h = (refl, (c, refl, h))
+
+children_stand : (ts : Elements) (cs : List (List ℕ)) (at : ℕ) → AreContainers ts cs → AreElements ts at (child_items cs at)
+children_stand no_elements [] at h = tt
+children_stand no_elements (c ∷ cs) at h = absurd h
+children_stand (element t ts) [] at h = absurd h
+children_stand (element t ts) (c ∷ cs) at h = (child_stands t c at h.0, children_stand ts cs (at + length (child_item c at).piece) h.1)
+
+-- where each of them stands for an array or an object, they stand for the array of these
+pub array_stands : (form : NumericForm) (cs : Bor (List (Vec ℕ Global))) (b : List ℕ) → IsEncodedOf form (Containers cs) b
+    → (ts : Elements) → AreContainers ts (map (λ c. c.items) cs.now) → Stands b (array ts)
+array_stands form cs b h ts good =
+    (child_items (map (λ c. c.items) cs.now) 0, children_laid form cs b h, children_stand ts (map (λ c. c.items) cs.now) 0 good)
 
 -- where they are not, they are too large, or there is no memory
 children_unlaid : (form : NumericForm) (cs : Bor (List (Vec ℕ Global))) (e : EncodeError) → IsNotEncodedOf form (Containers cs) e

@@ -42,18 +42,21 @@ scalar_bytes form t b h =
     let (w, k, e) = h.are in
     let s = subst (λ (gs : List Placed). IsWrittenOf (Numeral t) gs [] b) e h.whole in
     let bytes : b ≡ encoded form (number_tree w) = s.bytes in
-    let within : length (scalar_item form (number w) 0).piece < 2 ^ 28 = (let l = s.small.1 in omega (arith, length-append (scalar_item form (number w) 0).piece [])) in (
+    let within : length (scalar_item form (number w) 0).piece < 2 ^ 28 =
+    (let l = s.small.1 in omega (arith, length-append (scalar_item form (number w) 0).piece [])) in (
       w,
       k,
       record {
         bytes = bytes;
         within = within;
-        stands = subst (λ (x : List ℕ). Stands x (number_tree w)) (sym bytes) (tree_stands form (number_tree w) (record { rise = tt; exact = k.in_range }) k.fit within);
+        stands = subst (λ (x : List ℕ). Stands x (number_tree w)) (sym bytes)
+            (tree_stands form (number_tree w) (record { rise = tt; exact = k.in_range }) k.fit within);
       },
     )
 
 -- a root scalar is never too large
-pub scalar_causes : (form : NumericForm) (t : Bor (List ℕ)) (e : EncodeError) → IsNotEncodedOf form (Numeral t) e → IsRefused form t.now e ⊎ (e ≡ OutOfMemory)
+pub scalar_causes : (form : NumericForm) (t : Bor (List ℕ)) (e : EncodeError) → IsNotEncodedOf form (Numeral t) e
+    → IsRefused form t.now e ⊎ (e ≡ OutOfMemory)
 scalar_causes form t e (inl r) = inl r
 scalar_causes form t e (inr (gs, are, inl m)) = inr m
 scalar_causes form t e (inr (gs, (w, k, same), inr (l, big))) =
@@ -70,7 +73,8 @@ member_bytes form k t b h =
     let s = subst (λ (gs : List Placed). IsWrittenOf (KeyAndNumeral k t) gs [] b) e h.whole in
     let at : 0 + length k.now ≡ length (k.now ++ []) = omega (arith, length-append k.now []) in
     let small = subst (λ (p : ℕ). IsSmall 1 (key_item k.now ∷ numeral_item form w p ∷ [])) at s.small in
-    let bytes : b ≡ encoded form (member_tree k.now w) = s.bytes ∙ ap (λ (p : ℕ). container Object 1 (key_item k.now ∷ numeral_item form w p ∷ [])) at in
+    let bytes : b ≡ encoded form (member_tree k.now w) = s.bytes
+    ∙ ap (λ (p : ℕ). container Object 1 (key_item k.now ∷ numeral_item form w p ∷ [])) at in
     let within : IsWithinLimits form (member_tree k.now w) = (small, (tt, tt)) in
     let fit : IsTrue (fits form w && true) = and_from (fits form w) true n.fit refl in (
       w,
@@ -93,12 +97,14 @@ member_large form k t e (inr (gs, (w, n, same), inr (l, big))) is = (
   n,
   λ h.
       let at : length (k.now ++ []) ≡ 0 + length k.now = omega (arith, length-append k.now []) in
-      big (subst (λ (hs : List Placed). IsSmall 1 (placed hs 0)) (sym same) (subst (λ (p : ℕ). IsSmall 1 (key_item k.now ∷ numeral_item form w p ∷ [])) at h.0)),
+      big (subst (λ (hs : List Placed). IsSmall 1 (placed hs 0)) (sym same)
+          (subst (λ (p : ℕ). IsSmall 1 (key_item k.now ∷ numeral_item form w p ∷ [])) at h.0)),
 )
 
 -- ---- numbers
 
-numbers_items : (form : NumericForm) (ws : List Decimal) (at : ℕ) → placed (map (numeral_item form) ws) at ≡ element_items form (elements_from (map number_tree ws)) at
+numbers_items : (form : NumericForm) (ws : List Decimal) (at : ℕ)
+    → placed (map (numeral_item form) ws) at ≡ element_items form (elements_from (map number_tree ws)) at
 unfolding item
 numbers_items form [] at = refl
 numbers_items form (w ∷ ws) at =
@@ -145,7 +151,8 @@ array_bytes form ts b h =
     let count : length ts.now ≡ count_elements es = sym (texts_count ts.now) ∙ known.count in
     let items = numbers_items form ws 0 in
     let bytes : b ≡ encoded form (numbers_tree ws) =
-    s.bytes ∙ ap (λ (n : ℕ). container Array n (placed (map (numeral_item form) ws) 0)) count ∙ ap (λ (xs : List Item). container Array (count_elements es) xs) items in
+    s.bytes ∙ ap (λ (n : ℕ). container Array n (placed (map (numeral_item form) ws) 0)) count
+    ∙ ap (λ (xs : List Item). container Array (count_elements es) xs) items in
     let small = subst (λ (n : ℕ). IsSmall n (element_items form es 0)) count (subst (λ (xs : List Item). IsSmall (length ts.now) xs) items s.small) in
     let within : IsWithinLimits form (numbers_tree ws) = (small, numbers_small form ws) in (
       ws,
@@ -160,7 +167,8 @@ array_bytes form ts b h =
 
 pub array_large : (form : NumericForm) (ts : Bor (List (Text Global))) (e : EncodeError) → IsNotEncodedOf form (Numerals ts) e → e ≡ TooLarge
     → (ws : List Decimal) × AreNumerals form (map string_bytes ts.now) ws × ¬ IsWithinLimits form (numbers_tree ws)
-array_large form ts e (inl r) is = absurd (never form (map string_bytes ts.now) (subst (λ (x : EncodeError). AreRefused form (map string_bytes ts.now) x) is r))
+array_large form ts e (inl r) is = absurd (never form (map string_bytes ts.now)
+    (subst (λ (x : EncodeError). AreRefused form (map string_bytes ts.now) x) is r))
   where
     never : (form : NumericForm) (ts : List (List ℕ)) → AreRefused form ts TooLarge → ⊥
     never form [] r = r

@@ -156,7 +156,8 @@ size_below ws fs zeros h g =
     let n = length (ws ++ fs) in
     let k = (length ws + length fs + zeros + 3) / 4 in
     let e = length-append ws fs in
-    let a : number (ws ++ fs) * 10 ^ zeros < 10 ^ n * 10 ^ zeros = mul-lt-mul_of_pos_right (number_below (ws ++ fs) (both ws fs h g)) (ten_pos zeros) in
+    let a : number (ws ++ fs) * 10 ^ zeros < 10 ^ n * 10 ^ zeros = mul-lt-mul_of_pos_right (number_below (ws ++ fs) (both ws fs h g))
+    (ten_pos zeros) in
     let b : 10 ^ (n + zeros) ≤ 10 ^ (4 * k) = ten_mono (n + zeros) (4 * k) (omega arith) in
     let p = pow-add 10 n zeros in
     let q = fours k in

@@ -13,7 +13,8 @@ returns-in_err-check_text c =
     let r = subst (λ (t : Text Global). IsRefused c.args.form (string_bytes t) e) c.index-texts-index.is
     (subst (λ (t : List ℕ). IsRefused c.args.form t e) c.as_str.ensures.value c.in_err-check_text.ensures) in
     err_told_as c.from_residual.result e _ _ (search rules)
-    (subst (λ (xs : List (List ℕ)). AreRefused c.args.form xs e) (sym (split_texts ts i c.index-texts-index.result (omega (arith, c.loop-index-test.true))))
+    (subst (λ (xs : List (List ℕ)). AreRefused c.args.form xs e)
+    (sym (split_texts ts i c.index-texts-index.result (omega (arith, c.loop-index-test.true))))
     (refused_behind c.args.form (take i (map string_bytes ts)) (drop (suc i) (map string_bytes ts)) ws _ e h r))
 
 pub loop-index-preserved : goal.loop-index-preserved
@@ -25,11 +26,13 @@ loop-index-preserved c =
     let n = subst (λ (t : Text Global). IsNumeral c.args.form (string_bytes t) w) c.index-texts-index.is
     (subst (λ (t : List ℕ). IsNumeral c.args.form t w) c.as_str.ensures.value k) in (
       ws ++ w ∷ [],
-      subst (λ (xs : List (List ℕ)). AreNumerals c.args.form xs (ws ++ w ∷ [])) (taken_texts ts i c.index-texts-index.result (omega (arith, c.loop-index-test.true)))
+      subst (λ (xs : List (List ℕ)). AreNumerals c.args.form xs (ws ++ w ∷ []))
+          (taken_texts ts i c.index-texts-index.result (omega (arith, c.loop-index-test.true)))
           (numerals_more c.args.form (take i (map string_bytes ts)) ws _ w h n),
     )
 
 pub returns : goal.returns
 returns c =
     let (ws, h) = c.loop-index.invariant in
-    (ws, subst (λ (xs : List (List ℕ)). AreNumerals c.args.form xs ws) (all_texts c.args.texts.now c.loop-index.index (omega (arith, c.loop-index-test.false))) h)
+    (ws, subst (λ (xs : List (List ℕ)). AreNumerals c.args.form xs ws)
+    (all_texts c.args.texts.now c.loop-index.index (omega (arith, c.loop-index-test.false))) h)

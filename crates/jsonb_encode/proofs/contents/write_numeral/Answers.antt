@@ -20,7 +20,9 @@ returns c = λ w h.
     record {
       kind_is = refl;
       bytes = e
-          ∙ ap (λ (xs : List ℕ). xs ++ numeric c.args.form v) (c.in_ok-push_padding.ensures.ok ∙ ap (λ (k : ℕ). base ++ padding (k - c.args.payload)) n)
+          ∙ ap (λ (xs : List ℕ). xs ++ numeric c.args.form v)
+          (c.in_ok-push_padding.ensures.ok ∙ ap (λ (k : ℕ). base ++ padding (k - c.args.payload)) n)
           ∙ append_assoc base (padding (length base - c.args.payload)) (numeric c.args.form v)
-          ∙ ap (λ (u : Decimal). base ++ (padding (length base - c.args.payload) ++ numeric c.args.form u)) (one_literal c.args.text.now v w k.literal h.literal);
+          ∙ ap (λ (u : Decimal). base ++ (padding (length base - c.args.payload) ++ numeric c.args.form u))
+          (one_literal c.args.text.now v w k.literal h.literal);
     }

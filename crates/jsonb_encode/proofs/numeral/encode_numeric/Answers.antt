@@ -9,7 +9,8 @@ use Rattle.jsonb_encode.proofs.numeral.encode_numeric.Goals as goal
 pub returns-in-Ok-clause-bytes : goal.returns-in-Ok-clause-bytes
 returns-in-Ok-clause-bytes c =
     let (w, h, e) = c.in-Ok.ensures in
-    let bytes : c.push_text.new.bytes.items ≡ numeric c.args.form w = e ∙ ap (λ (xs : List ℕ). xs ++ numeric c.args.form w) c.new-bytes.ensures.items in
+    let bytes : c.push_text.new.bytes.items ≡ numeric c.args.form w = e
+    ∙ ap (λ (xs : List ℕ). xs ++ numeric c.args.form w) c.new-bytes.ensures.items in
     (w, h, bytes, subst (λ (b : List ℕ). Numeric b w) (sym bytes) (number_stands c.args.form w h.in_range h.fit))
 
 pub returns-in-Ok-clause-not_a_number : goal.returns-in-Ok-clause-not_a_number

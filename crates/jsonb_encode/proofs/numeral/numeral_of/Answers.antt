@@ -13,7 +13,8 @@ pub returns-then-places-gt-MOST_FRACTION_DIGITS : goal.returns-then-places-gt-MO
 returns-then-places-gt-MOST_FRACTION_DIGITS c = λ size w e is range.
     let p = c.args.parts.now in
     let cnt = length p.fraction.now in
-    let many = places_many p.exponent.down cnt size p.exponent.size c.fraction_digits-places.result e (omega (arith, c.requires.few)) c.fraction_digits-places.ensures
+    let many = places_many p.exponent.down cnt size p.exponent.size c.fraction_digits-places.result e
+    (omega (arith, c.requires.few)) c.fraction_digits-places.ensures
     c.if-places-gt-MOST_FRACTION_DIGITS.true in
     let few = (subst IsInRange is range).1 in
     absurd (omega arith)
@@ -58,7 +59,8 @@ returns c = λ size w e is.
       record {
         digits = record { whole = c.requires.whole; fraction = c.requires.fraction; few = c.requires.few; zeros = few };
         size = sym sized.size;
-        header = header_is v c.is_below_zero.result f c.lift.result (c.is_below_zero.ensures ∙ minus_is p.negative n z zt f m c.count-count.ensures.count) refl
+        header = header_is v c.is_below_zero.result f c.lift.result
+            (c.is_below_zero.ensures ∙ minus_is p.negative n z zt f m c.count-count.ensures.count) refl
             (lift_is v m c.lift.result count c.lift.ensures);
         count = count;
         zeros = subst (λ (x : ℕ). AreZeros c.zero_groups-zeros.result m x) (sym sized.size) c.zero_groups-zeros.ensures;

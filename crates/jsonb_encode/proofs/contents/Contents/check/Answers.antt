@@ -3,11 +3,13 @@ use Rattle.jsonb_encode.proofs.ContentsLaws.{checked_as, checked_numeral, checke
 use Rattle.jsonb_encode.proofs.contents.Contents.check.Goals as goal
 
 pub returns-in-Numeral : goal.returns-in-Numeral
-returns-in-Numeral c = checked_as c.check_text.result c.args.form c.args.self.now _ c.in-Numeral.is (checked_numeral c.check_text.result c.args.form c.in-Numeral.text c.check_text.ensures)
+returns-in-Numeral c = checked_as c.check_text.result c.args.form c.args.self.now _ c.in-Numeral.is
+    (checked_numeral c.check_text.result c.args.form c.in-Numeral.text c.check_text.ensures)
 
 pub returns-in-Numerals : goal.returns-in-Numerals
 returns-in-Numerals c =
-    checked_as c.check_texts.result c.args.form c.args.self.now _ c.in-Numerals.is (checked_numerals c.check_texts.result c.args.form c.in-Numerals.texts c.check_texts.ensures)
+    checked_as c.check_texts.result c.args.form c.args.self.now _ c.in-Numerals.is
+    (checked_numerals c.check_texts.result c.args.form c.in-Numerals.texts c.check_texts.ensures)
 
 pub returns-in-Containers : goal.returns-in-Containers
 returns-in-Containers c = checked_containers c.args.form c.args.self.now c.in-Containers.field-0 c.in-Containers.is

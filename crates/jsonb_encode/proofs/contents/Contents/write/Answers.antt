@@ -18,8 +18,10 @@ write_item-requires-clause-payload c =
     let (gs, are) = c.requires in
     let n = c.items-items.result in
     let length_is = contents_length c.args.form c.args.self.now gs are in
-    let p = place_at gs c.loop-index.index n (shape_of c.args.self.now) c.count-count.result (c.len-start.result + 4 * n + 4) c.args.bytes.now.items c.loop-index.bytes.items
-    (omega (arith, c.items-items.ensures, c.loop-index-test.true)) (omega (arith, c.loop-index-test.true)) (c.loop-index.invariant gs are) (omega (arith, c.len-start.ensures)) in
+    let p = place_at gs c.loop-index.index n (shape_of c.args.self.now) c.count-count.result
+    (c.len-start.result + 4 * n + 4) c.args.bytes.now.items c.loop-index.bytes.items
+    (omega (arith, c.items-items.ensures, c.loop-index-test.true)) (omega (arith, c.loop-index-test.true)) (c.loop-index.invariant gs are)
+    (omega (arith, c.len-start.ensures)) in
     p.0
 
 pub write_item-requires-clause-few : goal.write_item-requires-clause-few
@@ -38,8 +40,10 @@ close_item-requires-clause-begin c =
     let (gs, are) = c.requires in
     let n = c.items-items.result in
     let length_is = contents_length c.args.form c.args.self.now gs are in
-    let p = place_at gs c.loop-index.index n (shape_of c.args.self.now) c.count-count.result (c.len-start.result + 4 * n + 4) c.args.bytes.now.items c.loop-index.bytes.items
-    (omega (arith, c.items-items.ensures, c.loop-index-test.true)) (omega (arith, c.loop-index-test.true)) (c.loop-index.invariant gs are) (omega (arith, c.len-start.ensures)) in
+    let p = place_at gs c.loop-index.index n (shape_of c.args.self.now) c.count-count.result
+    (c.len-start.result + 4 * n + 4) c.args.bytes.now.items c.loop-index.bytes.items
+    (omega (arith, c.items-items.ensures, c.loop-index-test.true)) (omega (arith, c.loop-index-test.true)) (c.loop-index.invariant gs are)
+    (omega (arith, c.len-start.ensures)) in
     omega (arith, p.0, c.len-begin.ensures)
 
 pub close_item-requires-clause-end : goal.close_item-requires-clause-end
@@ -49,7 +53,8 @@ close_item-requires-clause-end c =
     let (g, at) = some_at c.loop-index.index gs (omega (arith, c.items-items.ensures, c.loop-index-test.true)) in
     let w = c.in_ok-kind.ensures gs g are at in
     let mid = c.loop-index.bytes.items in
-    omega (arith, ap length w.bytes, length-append mid (g (length mid - (c.len-start.result + 4 * c.items-items.result + 4))).piece, c.len-begin.ensures)
+    omega (arith, ap length w.bytes, length-append mid (g (length mid -
+    (c.len-start.result + 4 * c.items-items.result + 4))).piece, c.len-begin.ensures)
 
 pub returns-in_err-close_item : goal.returns-in_err-close_item
 returns-in_err-close_item c = λ gs are.
@@ -70,7 +75,8 @@ returns-in_err-close_item c = λ gs are.
     let told = c.in_err-close_item.ensures base mid (g (length mid - payload)).piece f m (placed (take i gs) 0) (omega (arith, c.len-start.ensures))
     (placed_length (take i gs) 0 ∙ taken_length i gs le) open_is (omega (arith, c.len-begin.ensures)) w.bytes in
     let all = not_smaller i gs g 0 (length mid - payload) at (omega (arith, p.1)) in
-    err_told_as c.from_residual-in_err-close_item.result e _ _ (search rules) (inr (told.0, λ small. let s = small.1 in let t = told.1 in omega arith))
+    err_told_as c.from_residual-in_err-close_item.result e _ _ (search rules)
+        (inr (told.0, λ small. let s = small.1 in let t = told.1 in omega arith))
 
 pub loop-index-preserved : goal.loop-index-preserved
 loop-index-preserved c = λ gs are.
@@ -99,7 +105,8 @@ returns c = λ gs are.
     let f = shape_of c.args.self.now in
     let length_is = contents_length c.args.form c.args.self.now gs are in
     let open_is = subst (λ (hs : List Placed). IsOpen f m n (placed hs 0) base c.loop-index.bytes.items)
-    (all_taken c.loop-index.index gs (omega (arith, c.items-items.ensures, c.loop-index-test.false, c.loop-index.auto.index-end))) (c.loop-index.invariant gs are) in
+    (all_taken c.loop-index.index gs (omega (arith, c.items-items.ensures, c.loop-index-test.false, c.loop-index.auto.index-end)))
+    (c.loop-index.invariant gs are) in
     record {
       bytes = open_is.bytes
           ∙ ap (λ (xs : List ℕ). base ++ xs) (opened_whole f m n (placed gs 0) (omega (arith, placed_length gs 0, c.items-items.ensures))

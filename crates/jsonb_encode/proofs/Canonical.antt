@@ -1,14 +1,9 @@
 -- The canonical bytes of a tree are one, and they stand for it.
-use Rattle.std.proofs.Common.{◌≡◌, ℕ, suc, ◌+◌, ◌-◌, ◌*◌, ◌^◌, ◌<◌, ◌≤◌, Bool, true, false, cond, List, [], ◌∷◌, ◌++◌, length, map, refl, sym, ap, subst, ◌∙◌, arith, inl, inr}
-use Rattle.std.specs.Int.{w16, to_le_bytes}
-use Rattle.std.specs.List.{flat_map}
-use Rattle.std.proofs.lemmas.Bool.{cases_lt, ne_eqb}
+use Rattle.std.proofs.Common.{◌≡◌, ℕ, ◌+◌, ◌*◌, ◌^◌, ◌<◌, cond, List, [], ◌∷◌, ◌++◌, length, map, refl, sym, ap, subst, ◌∙◌, arith}
 use Rattle.std.proofs.lemmas.List.{length-append}
 use Rattle.json_model.specs.Decimal.{Decimal}
 use Rattle.json_model.specs.Tree.{Scalar, null, boolean, number, string, Tree, scalar, array, object, Elements, no_elements, element, Members, no_members, member, keys}
-use Rattle.json_exact.specs.Digits.{spread, count_of}
 use Rattle.json_exact.specs.Parsed.{IsInRange}
-use Rattle.json_exact.specs.inner.LeadingDigitsLaws.{count_none}
 use Rattle.jsonb_layout.specs.Layout.{Item, pieces, Laid}
 use Rattle.jsonb_layout.specs.Numeric.{Numeric}
 use Rattle.jsonb_layout.specs.Stands.{padding, key_item, IsScalar, IsItem, AreElements, AreValues, Stands}
@@ -16,64 +11,21 @@ use Rattle.jsonb_layout.specs.declared.form.Form.{Form}
 use Rattle.jsonb_layout.specs.declared.form.Form.TheVariants.{Array, Object, Lone}
 use Rattle.jsonb_encode.specs.Canonical.{IsCanonicalScalar, IsCanonicalItem, AreCanonicalElements, AreCanonicalValues, IsCanonical}
 use Rattle.jsonb_encode.specs.Encoded.{container, scalar_item, item, element_items, value_items, array_items, object_items, key_items, key_bytes, count_elements, count_members, encoded, canonical}
-use Rattle.jsonb_encode.specs.Number.{fraction_groups, magnitude, group_count, groups, lift, trimmed, all_zero, header, head, short_head, long_head, is_short, body, numeric, fits}
+use Rattle.jsonb_encode.specs.Number.{numeric, fits}
 use Rattle.jsonb_encode.specs.declared.number_form.NumericForm.TheVariants.{Short}
-use Rattle.jsonb_encode.proofs.Digits.{spread_length}
-use Rattle.jsonb_encode.proofs.NumberStands.{lift_below, stands_by}
-use Rattle.jsonb_encode.proofs.Spans.{halves_length}
+use Rattle.jsonb_encode.proofs.NumberStands.{body_within, number_stands}
 
 -- ---- numbers
-
-trimmed_length : (gs : List ℕ) → length (trimmed gs) ≤ length gs
-trimmed_length [] = omega arith
-trimmed_length (g ∷ gs) = go (all_zero (g ∷ gs)) (trimmed_length gs)
-  where
-    go : (b : Bool) → length (trimmed gs) ≤ length gs → length (cond b [] (g ∷ trimmed gs)) ≤ suc (length gs)
-    go true le = omega arith
-    go false le = omega arith
-
-groups_counted : (d : Decimal) → length (groups d) ≤ group_count d
-unfolding groups
-groups_counted d =
-    omega (arith, trimmed_length (spread 10000 (group_count d) (magnitude d)), spread_length (group_count d) (magnitude d))
-
--- a number in range has not too many groups
-few_groups : (d : Decimal) → IsInRange d → group_count d < 2 ^ 17
-few_groups d range = elim (cases_lt 0 (magnitude d)) [
-  | inl some ↦
-      let below = lift_below d range in
-      let is : lift d ≡ (2 ^ 15 + group_count d) - (1 + fraction_groups d.places) =
-      ap (λ (b : Bool). cond b (2 ^ 15) ((2 ^ 15 + group_count d) - (1 + fraction_groups d.places)))
-      (ne_eqb (magnitude d) 0 (λ z. absurd (omega arith))) in
-      let places = range.1 in
-      omega arith
-  | inr none ↦
-      let z : magnitude d ≡ 0 = omega arith in
-      let e : group_count d ≡ 0 = ap (count_of 10000) z ∙ count_none 10000 in
-      omega arith
-]
-
-head_small : (d : Decimal) → length (head Short (header d)) ≤ 4
-head_small d = go (is_short (header d))
-  where
-    go : (b : Bool) → length (cond b (short_head (header d)) (long_head (header d))) ≤ 4
-    go true = omega arith
-    go false = omega arith
-
-body_small : (d : Decimal) → IsInRange d → length (body Short d) < 2 ^ 20
-body_small d range =
-    let size = length-append (head Short (header d)) (flat_map (to_le_bytes w16) (groups d)) in
-    omega (arith, size, head_small d, halves_length (groups d), groups_counted d, few_groups d range)
 
 -- the canonical bytes of a number are few
 pub number_small : (d : Decimal) → IsInRange d → length (numeric Short d) < 2 ^ 21
 unfolding numeric
-number_small d range = omega (arith, body_small d range)
+number_small d range = omega (arith, body_within Short d range)
 
 -- and stand for it
-pub number_stands : (d : Decimal) → IsInRange d → Numeric (numeric Short d) d
+pub short_stands : (d : Decimal) → IsInRange d → Numeric (numeric Short d) d
 unfolding fits
-number_stands d range = stands_by Short d range refl (body_small d range) (λ e. absurd cc)
+short_stands d range = number_stands Short d range refl
 
 -- ---- canonical bytes stand
 
@@ -82,7 +34,7 @@ scalar_stands null at x h = h
 scalar_stands (boolean b) at x h = h
 scalar_stands (string s) at x h = h
 scalar_stands (number d) at x (kind, (q, piece, (range, is))) =
-    (kind, (q, piece, subst (λ (p : List ℕ). Numeric p d) (sym is) (number_stands d range)))
+    (kind, (q, piece, subst (λ (p : List ℕ). Numeric p d) (sym is) (short_stands d range)))
 
 mutual
   -- what is canonical for a tree stands for it
@@ -114,7 +66,8 @@ canonical_stands (object ms) b (xs, laid, rise, h) = (xs, laid, rise, values_sta
 
 item_same : (x : Item) (k : ℕ) (p : List ℕ) → x.kind ≡ k → x.piece ≡ p → x ≡ record { kind = k; piece = p }
 item_same x k p e f =
-    ap (λ (n : ℕ). let y : Item = record { kind = n; piece = x.piece } in y) e ∙ ap (λ (q : List ℕ). let y : Item = record { kind = k; piece = q } in y) f
+    ap (λ (n : ℕ). let y : Item = record { kind = n; piece = x.piece } in y) e ∙ ap
+    (λ (q : List ℕ). let y : Item = record { kind = k; piece = q } in y) f
 
 cons_same : (x y : Item) (xs ys : List Item) → x ≡ y → xs ≡ ys → x ∷ xs ≡ y ∷ ys
 cons_same x y xs ys e f = cc

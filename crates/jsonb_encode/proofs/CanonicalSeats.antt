@@ -1,5 +1,5 @@
 -- A container is canonical exactly where the values in it are.
-use Rattle.std.proofs.Common.{◌≡◌, ℕ, zero, suc, ◌+◌, ◌-◌, ◌*◌, ◌^◌, ◌<◌, ◌≤◌, Bool, true, false, cond, eqb, List, [], ◌∷◌, ◌++◌, length, map, drop, Option, Some, None, refl, sym, ap, subst, ◌∙◌, arith}
+use Rattle.std.proofs.Common.{◌≡◌, ℕ, suc, ◌+◌, ◌^◌, ◌<◌, Bool, true, false, cond, List, [], ◌∷◌, ◌++◌, length, map, drop, Some, None, refl, sym, ap, subst, ◌∙◌, arith}
 use Rattle.std.specs.Prelude.{IsTrue, ◌↔◌}
 use Rattle.std.specs.List.{AllByRecursion}
 use Rattle.std.proofs.lemmas.Bool.{eq-eqb, ne_eqb}
@@ -11,11 +11,10 @@ use Rattle.json_model.specs.Tree.{Scalar, null, boolean, number, string, Tree, s
 use Rattle.jsonb_layout.specs.Layout.{Item, pieces, Laid, pad}
 use Rattle.jsonb_layout.specs.declared.form.Form.{Form}
 use Rattle.jsonb_layout.specs.declared.form.Form.TheVariants.{Array, Object, Lone}
-use Rattle.jsonb_layout.specs.Options.{◌>>=◌}
-use Rattle.jsonb_layout.specs.Stands.{padding, key_item, IsPadded, IsScalar, IsArray, IsObject, IsItem, AreElements, AreValues, Stands}
+use Rattle.jsonb_layout.specs.Stands.{padding, key_item, IsArray, IsObject, IsItem, AreElements, AreValues, Stands}
 use Rattle.jsonb_layout.specs.Seats.{Seat, is_padded, own_bytes, item_seat, root_seat, IsRoot}
 use Rattle.jsonb_layout.specs.Numeric.{Numeric}
-use Rattle.jsonb_layout.specs.inner.Reading.{Place, item_at, scalar_of, unpadded, keys_at, numeric_of, opened}
+use Rattle.jsonb_layout.specs.inner.Reading.{Place, keys_at, numeric_of, opened}
 use Rattle.jsonb_layout.specs.inner.SeatReading.{seat_at, seats_at}
 use Rattle.jsonb_layout.specs.inner.Trees.{item_tree, read}
 use Rattle.jsonb_layout.proofs.Containers.{not_five, one_tree, read_again, read_takes}
@@ -28,11 +27,11 @@ use Rattle.jsonb_layout.proofs.Runs.{Run, Run-split, Run-tail, after, item_again
 use Rattle.jsonb_layout.proofs.Scalars.{scalar_again, unpadded_again}
 use Rattle.jsonb_layout.proofs.SeatRuns.{seats_step}
 use Rattle.jsonb_layout.proofs.Tools.{IsBytes, some_is}
-use Rattle.jsonb_encode.specs.Canonical.{IsCanonicalNumber, IsCanonicalScalar, IsCanonicalItem, AreCanonicalElements, AreCanonicalValues, IsCanonical, SeatIsCanonical, HasCanonicalBytes}
+use Rattle.jsonb_encode.specs.Canonical.{IsCanonicalItem, AreCanonicalElements, AreCanonicalValues, IsCanonical, SeatIsCanonical, HasCanonicalBytes}
 use Rattle.jsonb_encode.specs.Encoded.{encoded, canonical}
 use Rattle.jsonb_encode.specs.Number.{numeric}
 use Rattle.jsonb_encode.specs.declared.number_form.NumericForm.TheVariants.{Short}
-use Rattle.jsonb_encode.proofs.Canonical.{number_stands, number_small, item_stands, values_stand, canonical_stands, canonical_one}
+use Rattle.jsonb_encode.proofs.Canonical.{short_stands, number_small, item_stands, values_stand, canonical_stands, canonical_one}
 
 -- ---- an item and its own bytes
 
@@ -50,7 +49,8 @@ own_padded at x kind q e f g =
     ∙ drop_at (padding at) q (pad at) (length-replicate (pad at) 0)
 
 -- an item that stands for a tree has its padding
-has_padding : (t : Tree) (at : ℕ) (x : Item) (kind : ℕ) → IsItem t at x → x.kind ≡ kind → is_padded kind ≡ true → x.piece ≡ padding at ++ own_bytes at x
+has_padding : (t : Tree) (at : ℕ) (x : Item) (kind : ℕ) → IsItem t at x → x.kind ≡ kind → is_padded kind ≡ true → x.piece ≡ padding at ++
+    own_bytes at x
 has_padding (scalar null) at x kind h e f = absurd (let g : false ≡ true = ap is_padded (sym h.0 ∙ e) ∙ f in cc)
 has_padding (scalar (boolean true)) at x kind h e f = absurd (let g : false ≡ true = ap is_padded (sym h.0 ∙ e) ∙ f in cc)
 has_padding (scalar (boolean false)) at x kind h e f = absurd (let g : false ≡ true = ap is_padded (sym h.0 ∙ e) ∙ f in cc)
@@ -212,7 +212,8 @@ record Behind (b : List ℕ) (c : ℕ) (q : Place) (ms : Members) (xs : List Ite
   fits : q.at + length (pieces xs) < 2 ^ 28
   count : length xs ≡ c
 
-module _ (s c : ℕ) (b : List ℕ) {p q : Place} {ks : List (List ℕ)} (ms : Members) (e : opened b ≡ Some (Object, c, p)) (k : keys_at c None p ≡ Some (ks, q)) where
+module _ (s c : ℕ) (b : List ℕ) {p q : Place} {ks : List (List ℕ)} (ms : Members) (e : opened b ≡ Some (Object, c, p))
+    (k : keys_at c None p ≡ Some (ks, q)) where
   values_there : (xs : List Item) → Laid b Object (map key_item (keys ms) ++ xs) → IsTrue (rises (keys ms)) → length xs ≡ length (keys ms)
       → Behind b c q ms xs
   values_there xs laid rise many =
@@ -370,7 +371,7 @@ number_is_canonical at b d range is = (λ e. (scalar (number d), (refl, (b, refl
     back (scalar (boolean false)) h = absurd cc
     back (scalar (string s)) h = absurd cc
     back (scalar (number c)) (kind, (q, piece, (low, e))) =
-        let n : Numeric b c = subst (λ (x : List ℕ). Numeric x c) (sym (piece ∙ e)) (number_stands c low) in
+        let n : Numeric b c = subst (λ (x : List ℕ). Numeric x c) (sym (piece ∙ e)) (short_stands c low) in
         let same : c ≡ d = some_is c d (sym (numeric_again b c n) ∙ is) in
         piece ∙ e ∙ ap (numeric Short) same
     back (array ts) h = absurd cc

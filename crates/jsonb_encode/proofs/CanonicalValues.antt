@@ -48,7 +48,8 @@ kinds_behind (k ∷ ks) xs h = (omega arith, kinds_behind ks xs h)
 
 -- ---- trees
 
-array_laid : (ts : Elements) → AreSmall Short (array ts) → Laid (container Array (count_elements ts) (array_items Short ts)) Array (array_items Short ts)
+array_laid : (ts : Elements) → AreSmall Short (array ts) → Laid (container Array (count_elements ts) (array_items Short ts)) Array
+    (array_items Short ts)
 array_laid ts small = record {
   count = count_elements ts;
   counted = element_counts ts 0;
@@ -73,7 +74,7 @@ scalar_written : (s : Scalar) (at : ℕ) → ScalarIsExact s → IsCanonicalScal
 scalar_written null at h = (refl, refl)
 scalar_written (boolean b) at h = (refl, refl)
 scalar_written (string s) at h = (refl, refl)
-scalar_written (number d) at h = (refl, (numeric Short d, refl, (h.1, refl)))
+scalar_written (number d) at h = (refl, (numeric Short d, refl, (h, refl)))
 
 mutual
   unfolding item

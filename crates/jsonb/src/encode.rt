@@ -10,5 +10,6 @@ pub use container::{assemble, encode_nested_arrays};
 pub use hex_text::{HexError, decode_hex};
 pub use jsonb_encode::{
     EncodeError, JB_FARRAY, JB_FSCALAR, JENTRY_HAS_OFF, NumericForm, VarlenaError, encode,
-    encode_raw_key_object, encode_with, strip_varlena, to_hex,
+    encode_array_of, encode_numeric, encode_numeric_text_array, encode_numeric_text_object,
+    encode_numeric_text_scalar, encode_raw_key_object, encode_with, strip_varlena, to_hex,
 };

@@ -1,6 +1,6 @@
 -- Items that are written one after another, whatever they are.
-use Rattle.std.proofs.Common.{◌≡◌, ℕ, zero, suc, ◌+◌, ◌-◌, ◌*◌, ◌^◌, ◌<◌, ◌≤◌, List, [], ◌∷◌, ◌++◌, length, map, take, drop, get_or, refl, sym, ap, subst, ◌∙◌, append_assoc, arith, inl, inr, Global, Vec, Result, Ok, Err}
-use Rattle.std.specs.Prelude.{String as Text, string_bytes, MatchResult, IfOk, IfErr, ◌↔◌, ◌⊎◌}
+use Rattle.std.proofs.Common.{◌≡◌, ℕ, zero, suc, ◌+◌, ◌-◌, ◌*◌, ◌<◌, ◌≤◌, List, [], ◌∷◌, ◌++◌, length, map, take, drop, get_or, refl, sym, ap, subst, ◌∙◌, arith, inl, inr, Global, Vec, Result, Ok, Err}
+use Rattle.std.specs.Prelude.{String as Text, string_bytes, MatchResult, IfOk, IfErr, ◌↔◌}
 use Rattle.std.specs.Borrow.{Bor}
 use Rattle.std.proofs.lemmas.List.{length-append}
 use Rattle.json_model.specs.Decimal.{Decimal}
@@ -17,7 +17,7 @@ use Rattle.jsonb_encode.specs.declared.contents.Contents.{Contents}
 use Rattle.jsonb_encode.specs.declared.contents.Contents.TheVariants.{Numeral, Numerals, Containers, KeyAndNumeral, KeyAndNull}
 use Rattle.jsonb_encode.specs.declared.number_form.NumericForm.{NumericForm}
 use Rattle.jsonb_encode.proofs.Numerals.{not_refused, one_reason}
-use Rattle.jsonb_encode.proofs.Opened.{open_length, pieces_more}
+use Rattle.jsonb_encode.proofs.Opened.{open_length}
 
 -- each place of a list holds something
 pub some_at : (i : ℕ) (gs : List Placed) → i < length gs → (g : Placed) × IsAt i gs g

@@ -1,5 +1,5 @@
 -- The bytes of containers of number literals.
-use Rattle.std.proofs.Common.{◌≡◌, ℕ, suc, ◌+◌, ◌*◌, ◌^◌, ◌<◌, ◌≤◌, ◌⊎◌, true, List, [], ◌∷◌, ◌++◌, length, map, refl, sym, ap, subst, ◌∙◌, arith, inl, inr, Global}
+use Rattle.std.proofs.Common.{◌≡◌, ℕ, suc, ◌+◌, ◌^◌, ◌<◌, ◌≤◌, ◌⊎◌, true, List, [], ◌∷◌, ◌++◌, length, map, refl, sym, ap, subst, ◌∙◌, arith, inl, inr, Global}
 use Rattle.std.specs.Borrow.{Bor}
 use Rattle.std.specs.Prelude.{String as Text, string_bytes, IsTrue, ◌&&◌}
 use Rattle.std.proofs.lemmas.Bool.{and_from}
@@ -7,9 +7,8 @@ use Rattle.std.proofs.lemmas.List.{length-append}
 use Rattle.json_model.specs.Decimal.{Decimal}
 use Rattle.json_model.specs.Parts.{elements_from}
 use Rattle.json_model.specs.Rising.{KeysRiseInElements}
-use Rattle.json_model.specs.Tree.{number, Tree, scalar, array, object, no_members, member}
-use Rattle.json_exact.specs.Parsed.{IsInRange}
-use Rattle.jsonb_layout.specs.Layout.{Item, pieces}
+use Rattle.json_model.specs.Tree.{number}
+use Rattle.jsonb_layout.specs.Layout.{Item}
 use Rattle.jsonb_layout.specs.Stands.{key_item, Stands}
 use Rattle.jsonb_layout.specs.declared.form.Form.TheVariants.{Array, Object}
 use Rattle.jsonb_encode.specs.Encoded.{container, scalar_item, item, element_items, count_elements, encoded}
@@ -24,7 +23,6 @@ use Rattle.jsonb_encode.specs.declared.number_form.NumericForm.TheVariants.{Shor
 use Rattle.jsonb_encode.specs.inner.Contents.{Placed, placed, numeral_item, IsWrittenOf, IsEncodedOf, IsNotEncodedOf}
 use Rattle.jsonb_encode.proofs.NumberStands.{body_within}
 use Rattle.jsonb_encode.proofs.TreeStands.{tree_stands}
-use Rattle.jsonb_encode.proofs.Written.{count_is}
 
 -- ---- one number
 
@@ -98,7 +96,7 @@ member_large form k t e (inr (gs, (w, n, same), inr (l, big))) is = (
   λ h.
       let at : length (k.now ++ []) ≡ 0 + length k.now = omega (arith, length-append k.now []) in
       big (subst (λ (hs : List Placed). IsSmall 1 (placed hs 0)) (sym same)
-          (subst (λ (p : ℕ). IsSmall 1 (key_item k.now ∷ numeral_item form w p ∷ [])) at h.0)),
+      (subst (λ (p : ℕ). IsSmall 1 (key_item k.now ∷ numeral_item form w p ∷ [])) at h.0)),
 )
 
 -- ---- numbers

@@ -7,6 +7,8 @@ mod encoding;
 #[cfg(test)]
 mod layout;
 #[cfg(test)]
+mod literals;
+#[cfg(test)]
 mod nodes;
 #[cfg(test)]
 mod numbers;

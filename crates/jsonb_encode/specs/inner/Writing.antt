@@ -1,7 +1,7 @@
 -- What the writer has written, part by part.
 use Rattle.std.specs.Prelude.{◌≡◌, ℕ, zero, suc, ◌+◌, ◌-◌, ◌*◌, ◌%◌, ◌^◌, ◌==◌, ◌⊎◌, ◌<◌, ◌≤◌, true, map, List, [], ◌∷◌, ◌++◌, length, replicate, ℤ, pos, ◌-ℤ◌, if◌then◌else◌}
 use Rattle.std.specs.Int.{w32, to_le_bytes}
-use Rattle.json_model.specs.Tree.{Tree, Elements, scalar, null, object, member, no_members}
+use Rattle.json_model.specs.Tree.{Tree, Elements}
 use Rattle.json_model.specs.Keys.{rises}
 use Rattle.json_model.specs.Parts.{elements_from}
 use Rattle.json_model.specs.Rising.{KeysRiseInElements}

@@ -33,6 +33,8 @@ loop-index-preserved c =
 
 pub returns : goal.returns
 returns c =
-    let (ws, h) = c.loop-index.invariant in
-    (ws, subst (λ (xs : List (List ℕ)). AreNumerals c.args.form xs ws)
-    (all_texts c.args.texts.now c.loop-index.index (omega (arith, c.loop-index-test.false))) h)
+    let (ws, h) = c.loop-index.invariant in (
+      ws,
+      subst (λ (xs : List (List ℕ)). AreNumerals c.args.form xs ws)
+          (all_texts c.args.texts.now c.loop-index.index (omega (arith, c.loop-index-test.false))) h,
+    )

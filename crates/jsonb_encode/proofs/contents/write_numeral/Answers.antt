@@ -1,4 +1,4 @@
-use Rattle.std.proofs.Common.{◌≡◌, ◌++◌, ◌-◌, ℕ, List, length, refl, sym, ap, ◌∙◌, append_assoc, arith, rules}
+use Rattle.std.proofs.Common.{◌≡◌, ◌++◌, ◌-◌, ℕ, List, length, refl, ap, ◌∙◌, append_assoc, arith, rules}
 use Rattle.json_model.specs.Decimal.{Decimal}
 use Rattle.json_exact.proofs.LiteralLaws.{one_literal}
 use Rattle.jsonb_layout.specs.Stands.{padding}

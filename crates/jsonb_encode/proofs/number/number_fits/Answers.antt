@@ -10,4 +10,4 @@ returns-in-ShortVarlena c =
     let w = c.args.number.now in
     let narrow = narrow_of c.decimal-decimal.result w c.decimal-decimal.ensures c.decimals_are_within_limits.ensures in
     narrow_fits w c.is_short.result narrow (c.is_short.ensures ∙ ap is_short c.header_of.ensures)
-        ∙ sym (ap (λ (f : NumericForm). fits f w) c.in-ShortVarlena.is)
+    ∙ sym (ap (λ (f : NumericForm). fits f w) c.in-ShortVarlena.is)

@@ -1,4 +1,4 @@
-use Rattle.std.proofs.Common.{◌≡◌, List, ℕ, refl, subst}
+use Rattle.std.proofs.Common.{List, ℕ, refl, subst}
 use Rattle.json_model.specs.Decimal.{Decimal}
 use Rattle.jsonb_encode.specs.Limits.{IsWithinLimits}
 use Rattle.jsonb_encode.specs.Literals.{IsNumeral, AreBytesOf, member_tree}
@@ -29,5 +29,5 @@ returns-clause-does_not_fit c = refusal c.encode.result (λ v. v.items) c.args.f
 pub returns-clause-too_large : goal.returns-clause-too_large
 returns-clause-too_large c = λ is.
     subst (λ (k : List ℕ). (w : Decimal) × IsNumeral c.args.form c.args.text.now w × ¬ IsWithinLimits c.args.form
-        (member_tree k w)) c.as_bytes.ensures.value
+    (member_tree k w)) c.as_bytes.ensures.value
     (member_large c.args.form c.as_bytes.result c.args.text TooLarge (err_is c.encode.result _ _ TooLarge c.encode.ensures is) refl)

@@ -1,4 +1,3 @@
-use Rattle.std.proofs.Common.{refl}
 use Rattle.jsonb_encode.proofs.ContentsLaws.{checked_as, checked_numeral, checked_numerals, checked_member, checked_containers, checked_null}
 use Rattle.jsonb_encode.proofs.contents.Contents.check.Goals as goal
 

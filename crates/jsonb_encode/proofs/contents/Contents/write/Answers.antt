@@ -1,10 +1,7 @@
-use Rattle.std.proofs.Common.{◌≡◌, ◌+◌, ◌-◌, ◌*◌, ◌<◌, ◌≤◌, ◌++◌, [], ℕ, List, length, take, sym, ap, subst, ◌∙◌, arith, inl, inr, rules, refl}
+use Rattle.std.proofs.Common.{◌+◌, ◌-◌, ◌*◌, ◌≤◌, ◌++◌, ℕ, List, length, take, ap, subst, ◌∙◌, arith, inl, inr, rules, refl}
 use Rattle.std.proofs.lemmas.List.{length-append}
-use Rattle.jsonb_layout.specs.Layout.{Item, pieces}
-use Rattle.jsonb_layout.specs.declared.form.Form.{Form}
-use Rattle.jsonb_encode.specs.declared.error.EncodeError.TheVariants.{OutOfMemory}
 use Rattle.jsonb_encode.specs.Encoded.{container}
-use Rattle.jsonb_encode.specs.inner.Contents.{Placed, placed, shape_of, count_in, IsUnwrittenOf}
+use Rattle.jsonb_encode.specs.inner.Contents.{Placed, placed, shape_of}
 use Rattle.jsonb_encode.specs.inner.Writing.{IsOpen, kind_number}
 use Rattle.jsonb_encode.proofs.ContentsLaws.{some_at, next_placed, not_smaller, place_at, placed_length, taken_length, all_taken, contents_length, items_few, err_told_as}
 use Rattle.jsonb_encode.proofs.Opened.{opened_whole}
@@ -53,8 +50,13 @@ close_item-requires-clause-end c =
     let (g, at) = some_at c.loop-index.index gs (omega (arith, c.items-items.ensures, c.loop-index-test.true)) in
     let w = c.in_ok-kind.ensures gs g are at in
     let mid = c.loop-index.bytes.items in
-    omega (arith, ap length w.bytes, length-append mid (g (length mid -
-    (c.len-start.result + 4 * c.items-items.result + 4))).piece, c.len-begin.ensures)
+    omega (
+      arith,
+      ap length w.bytes,
+      length-append mid (g (length mid -
+          (c.len-start.result + 4 * c.items-items.result + 4))).piece,
+      c.len-begin.ensures,
+    )
 
 pub returns-in_err-close_item : goal.returns-in_err-close_item
 returns-in_err-close_item c = λ gs are.
@@ -76,7 +78,7 @@ returns-in_err-close_item c = λ gs are.
     (placed_length (take i gs) 0 ∙ taken_length i gs le) open_is (omega (arith, c.len-begin.ensures)) w.bytes in
     let all = not_smaller i gs g 0 (length mid - payload) at (omega (arith, p.1)) in
     err_told_as c.from_residual-in_err-close_item.result e _ _ (search rules)
-        (inr (told.0, λ small. let s = small.1 in let t = told.1 in omega arith))
+    (inr (told.0, λ small. let s = small.1 in let t = told.1 in omega arith))
 
 pub loop-index-preserved : goal.loop-index-preserved
 loop-index-preserved c = λ gs are.

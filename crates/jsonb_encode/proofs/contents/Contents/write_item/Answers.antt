@@ -1,10 +1,9 @@
-use Rattle.std.proofs.Common.{◌≡◌, ◌-◌, ◌<◌, ℕ, List, length, subst, sym, ap, ◌∙◌, arith, refl}
-use Rattle.std.specs.Prelude.{string_bytes}
+use Rattle.std.proofs.Common.{◌-◌, ℕ, List, length, subst, sym, ap, ◌∙◌}
 use Rattle.jsonb_encode.specs.Children.{child_item}
 use Rattle.jsonb_encode.specs.Literals.{IsNumeral}
-use Rattle.jsonb_encode.specs.inner.Contents.{Placed, numeral_item, key_at, null_at, IsAt, AreOf}
+use Rattle.jsonb_encode.specs.inner.Contents.{Placed, numeral_item, key_at, IsAt, AreOf}
 use Rattle.jsonb_encode.specs.declared.contents.Contents.{Contents}
-use Rattle.jsonb_encode.proofs.ContentsLaws.{Told, told_as, numeral_at, mapped_at, at_first, at_second}
+use Rattle.jsonb_encode.proofs.ContentsLaws.{told_as, numeral_at, mapped_at, at_first}
 use Rattle.jsonb_encode.proofs.contents.Contents.write_item.Goals as goal
 
 pub returns-in-Numerals : goal.returns-in-Numerals

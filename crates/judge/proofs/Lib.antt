@@ -2,7 +2,9 @@ pub mod KeywordNames
 pub mod Adding
 pub mod Answering
 pub mod BoundLaws
+pub mod CodeAnswers
 pub mod Compiling
+pub mod Counts
 pub mod Cuts
 pub mod Decided
 pub mod DecidedSame
@@ -10,6 +12,7 @@ pub mod InputAnswers
 pub mod KeptValues
 pub mod KnownBytes
 pub mod LineAnswers
+pub mod MadePairs
 pub mod NameLists
 pub mod OneAnswer
 pub mod Pairs
@@ -23,6 +26,7 @@ pub mod SomeRead
 pub mod SomeVerdict
 pub mod Steps
 pub mod Texts
+pub mod Summaries
 pub mod TypeLists
 pub mod RequiredKeys
 pub mod UniqueLaws

@@ -1,9 +1,7 @@
--- Which lines are pairs of hex texts, and which words ask for a check.
-use Rattle.std.proofs.Common.{Bor, ◌≡◌, ◌⊎◌, inl, inr, ℕ, ◌<◌, ◌≤◌, List, [], ◌∷◌, ◌++◌, length, get_or, eqb, Bool, true, false, Option, Some, None, Result, Ok, Err, refl, sym, ap, ◌∙◌, subst, arith}
-use Rattle.std.specs.Prelude.{◌↔◌, IfOk, IsNone, IsSomeAnd, IsTrue, MatchOption, codes}
+-- Which lines are pairs of hex texts.
+use Rattle.std.proofs.Common.{Bor, ◌≡◌, ◌⊎◌, inl, inr, ℕ, List, [], ◌∷◌, ◌++◌, Bool, Option, Some, None, Result, Ok, Err, refl, sym, ap, ◌∙◌, subst}
+use Rattle.std.specs.Prelude.{IfOk, IsNone, IsSomeAnd, MatchOption}
 use Rattle.std.specs.Result.{result_ok}
-use Rattle.std.specs.Cmp.Lexicographic.{same_text, other_text, pointwise}
-use Rattle.std.proofs.lemmas.Bool.{false≢true}
 use Rattle.jsonb.specs.HexText.{IsHexText}
 use Rattle.jsonb.proofs.HexTexts.{pair_no_space}
 use Rattle.judge.specs.declared.errors.JudgeError.{JudgeError}
@@ -12,7 +10,6 @@ use Rattle.judge.specs.Answers.{IsJudged, IsPair, LineAnswer, name_of}
 use Rattle.judge.specs.inner.Feeding.{AnswersOne}
 use Rattle.judge.specs.Lines.{Lacks}
 use Rattle.judge.specs.Right.{Right}
-use Rattle.judge.specs.Words.{IsCheck}
 use Rattle.judge.proofs.Texts.{Lacks-cut, cut_once}
 
 -- a hex text has no space
@@ -74,22 +71,3 @@ pub printed_answers : {E : Type 0} (line k d : List ℕ) (verdict : Result Bool 
     → o ≡ result_ok result → IfOk result (λ text. AnswersOne LineAnswer line text.now)
 printed_answers line k d verdict o (Ok text) pair right printed e = printed_answer line k d verdict o text pair right printed e
 printed_answers line k d verdict o (Err error) pair right printed e = tt
-
--- ---- words
-
--- a list of one item
-pub one_item : {X : Type 0} (items : List X) (x : X) → 1 ≤ length items → length items < 2 → x ≡ get_or items 0 x → items ≡ x ∷ []
-one_item [] x at_least below e = absurd (omega arith)
-one_item (y ∷ []) x at_least below e = ap (λ v. v ∷ []) (sym e)
-one_item (y ∷ z ∷ items) x at_least below e = absurd (omega arith)
-
-first_item : (a b : List ℕ) → a ∷ [] ≡ b ∷ [] → a ≡ b
-first_item a b e = cc
-
--- one word asks for a check exactly where it is `check`
-pub check_alone : (word : List ℕ) (equal : Bool) → equal ≡ pointwise eqb word (codes "check") → IsTrue equal ↔ IsCheck (word ∷ [])
-check_alone word true e = (λ _. inr (ap (λ v. v ∷ []) (same_text word (codes "check") e)), λ _. refl)
-check_alone word false e = (
-  λ h. absurd (false≢true h),
-  λ h. elim h [ inl none ↦ cc | inr one ↦ absurd (other_text word (codes "check") e (first_item word (codes "check") one)) ],
-)

@@ -3,10 +3,12 @@ pub mod Patterns
 pub mod Verdict
 pub mod Validity
 pub mod Right
+pub mod Codes
 pub mod Compiled
 pub mod Answers
 pub mod Faults
 pub mod Lines
+pub mod Made
 pub mod Memory
 pub mod Ran
 pub mod Status

@@ -2,3 +2,4 @@
 -- folder say what the answers are.
 pub mod Passes
 pub mod Feeding
+pub mod Requests

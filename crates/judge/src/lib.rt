@@ -14,8 +14,8 @@
 //! members, `uniqueItems`, `pattern` and `required`: all sixteen. A `pattern` is taken where it is literal, as `^x-` and `^(a|b)$`:
 //! `jsonschema_regex` says which those are.
 //!
-//! [`run`] reads lines from a [`Source`], judges each, and writes one line of answer for each to a [`Sink`]. A line is
-//! two hex texts with one space between, the keywords and the document. For example the lines
+//! [`run`] is the program. With no words it reads lines from a [`Source`], judges each, and writes one line of answer for each to a
+//! [`Sink`]. A line is two hex texts with one space between, the keywords and the document. For example the lines
 //!
 //! ```text
 //! 00000020 01000050000000c0
@@ -29,6 +29,10 @@
 //! bad line
 //! ```
 //!
+//! With the word `encode` a line is JSON text, as `null`, and its answer is the hex of the bytes that stand for it, as
+//! `01000050000000c0`, or why there are none. With `make` and a number it reads nothing: it judges that many pairs of its own, and
+//! writes how many are valid.
+//!
 //! A line has at most 2^24 bytes, and an input of fewer than 2^48 bytes is never too long. A run ends with a [`Status`], and
 //! its contract says what was taken and written at each.
 #![tactic(auto)]
@@ -36,6 +40,7 @@
 mod answer;
 mod bounds;
 mod checks;
+mod code;
 mod cut;
 mod errors;
 mod kept;
@@ -43,6 +48,7 @@ mod keyword;
 pub mod laws;
 mod limits;
 mod lines;
+mod make;
 mod meets;
 mod memory;
 mod names;
@@ -56,6 +62,7 @@ mod steady;
 mod stream;
 mod values;
 mod verdict;
+mod words;
 
 pub use checks::Checks;
 pub use errors::{Fault, JudgeError, KeywordError};

@@ -134,7 +134,7 @@ fn answer_line<C: Command, K: Sink>(
 }
 
 // Writes the piece, and then what the sink left of it.
-fn put_all<K: Sink>(sink: &mut K, piece: &[u8]) -> Result<(), SinkError>
+pub(crate) fn put_all<K: Sink>(sink: &mut K, piece: &[u8]) -> Result<(), SinkError>
     ensures puts { Puts (K.written sink.old) (K.written sink.new) piece.now result }
     ensures later { K.faults sink.old ≤ K.faults sink.new }
     ensures failed { IsErrOf result SinkError.Failed

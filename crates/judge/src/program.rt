@@ -1,36 +1,48 @@
 //! The program's run.
 ghost use Rattle.std.specs.Prelude.{◌≡◌, ◌≢◌, ◌⊎◌, ◌↔◌, ◌<◌, ◌^◌, ℕ, List, Some, length, map, string_bytes, IsTrue};
 ghost use Rattle.judge.specs.Answers.{LineAnswer};
+ghost use Rattle.judge.specs.Codes.{CodeAnswer};
 ghost use Rattle.judge.specs.Faults.{CountsOnce, Rose};
 ghost use Rattle.judge.specs.Lines.{AreShort, lines_of};
+ghost use Rattle.judge.specs.Made.{Made};
 ghost use Rattle.judge.specs.Ran.{Ran};
-ghost use Rattle.judge.specs.Words.{IsCheck};
+ghost use Rattle.judge.specs.Words.{AreGood, IsCheck, IsEncode, IsMake};
 
 use crate::answer::{CheckCommand, Command};
+use crate::code::EncodeCommand;
 use crate::lines::{feed, finish};
+use crate::make::make;
+use crate::words::{Request, read_words};
 use crate::{Sink, Source, Status};
 use std::alloc::Global;
 
 // Each turn takes at least one byte.
 const MAX_TURNS: u64 = 1 << 48;
 
-/// Answers each line that the source has left, where the words are none, or the one word `check`.
+/// Does what the words ask for: with no word, or with the word `check`, it judges the pair of each line that the source has left; with
+/// `encode` it gives the bytes of the JSON text of each; with `make` and a number from 1 to 100000 it judges that many pairs of its own,
+/// and counts them.
 ///
 /// It reads 4,096 bytes at a time, answers each line that ended before it reads again, and hands each answer with the
 /// end of a line to the sink in one piece, and then what the sink left of it. It keeps one line in memory. Where it stops
-/// at a line, the lines before that one are answered.
+/// at a line, the lines before that one are answered. With `make` it reads nothing.
 pub fn run<S: Source, K: Sink>(
     alloc: Global,
     words: &[String],
     source: &mut S,
     sink: &mut K,
 ) -> Status
-    ensures bad_words { (result ≡ Status.BadWords) ↔ (¬ IsCheck (map string_bytes words.now)) }
+    ensures bad_words { (result ≡ Status.BadWords) ↔ (¬ AreGood (map string_bytes words.now)) }
     ensures untouched { result ≡ Status.BadWords
         → (source.new ≡ source.old) × (sink.new ≡ sink.old) }
     ensures check { IsCheck (map string_bytes words.now)
         → Ran LineAnswer (S.left source.old) (S.left source.new)
         (K.written sink.old) (K.written sink.new) result }
+    ensures encode { IsEncode (map string_bytes words.now)
+        → Ran CodeAnswer (S.left source.old) (S.left source.new)
+        (K.written sink.old) (K.written sink.new) result }
+    ensures make { (count : ℕ) → IsMake (map string_bytes words.now) count
+        → (source.new ≡ source.old) × Made count (K.written sink.old) (K.written sink.new) result }
     ensures read_fault { result ≡ Status.ReadFault
         → Rose (S.faults source.old) (S.faults source.new) }
     ensures write_fault { result ≡ Status.WriteFault
@@ -49,26 +61,16 @@ pub fn run<S: Source, K: Sink>(
     ensures complete { (input : List ℕ) → S.left source.old ≡ Some input
         → AreShort (lines_of input)
         → length input < 2 ^ 48
-        → IsCheck (map string_bytes words.now)
+        → AreGood (map string_bytes words.now)
         → ¬ Rose (S.faults source.old) (S.faults source.new)
         → ¬ Rose (K.faults sink.old) (K.faults sink.new)
         → (result ≡ Status.Done) ⊎ (result ≡ Status.OutOfMemory) }
 {
-    if asks_for_check(words) {
-        answer_lines(&CheckCommand, alloc, source, sink)
-    } else {
-        Status::BadWords
-    }
-}
-
-// Whether the words ask for the command `check`.
-fn asks_for_check(words: &[String]) -> bool
-    ensures { IsTrue result ↔ IsCheck (map string_bytes words.now) }
-{
-    match words {
-        [] => true,
-        [word] => word.as_str() == "check",
-        _ => false,
+    match read_words(words) {
+        Some(Request::Check) => answer_lines(&CheckCommand, alloc, source, sink),
+        Some(Request::Encode) => answer_lines(&EncodeCommand, alloc, source, sink),
+        Some(Request::Make(count)) => make(alloc, count, sink),
+        None => Status::BadWords,
     }
 }
 

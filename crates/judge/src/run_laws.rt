@@ -2,7 +2,9 @@
 
 ghost use Rattle.std.specs.Prelude.{◌≡◌, ◌++◌, ℕ, List, IsSome};
 ghost use Rattle.judge.specs.Answers.{Answers, LineAnswer, name_of};
+ghost use Rattle.judge.specs.Codes.{CodeAnswer};
 ghost use Rattle.judge.specs.Lines.{lines_of};
+ghost use Rattle.judge.specs.Made.{IsMadeText, IsSummary};
 ghost use Rattle.judge.specs.Ran.{Agrees};
 ghost use Rattle.judge.specs.Right.{Answer, Right};
 ghost use Rattle.judge.specs.declared.status.Status.{Status};
@@ -13,22 +15,38 @@ pub fn right_answers_have_names()
         → Right keywords document r → IsSome (name_of r) }
 {}
 
-/// Each line has one answer.
+/// Each line has one answer, of either command.
 pub fn a_line_has_one_answer()
-    ensures some { (line : List ℕ) → (answer : List ℕ) × LineAnswer line answer }
-    ensures one { (line a b : List ℕ) → LineAnswer line a → LineAnswer line b → a ≡ b }
+    ensures some_check { (line : List ℕ) → (answer : List ℕ) × LineAnswer line answer }
+    ensures one_check { (line a b : List ℕ) → LineAnswer line a → LineAnswer line b → a ≡ b }
+    ensures some_encode { (line : List ℕ) → (answer : List ℕ) × CodeAnswer line answer }
+    ensures one_encode { (line a b : List ℕ) → CodeAnswer line a → CodeAnswer line b → a ≡ b }
 {}
 
-/// Each input has one text of answers.
+/// Each input has one text of answers, of either command.
 pub fn an_input_has_one_text_of_answers()
-    ensures some { (input : List ℕ) → (text : List ℕ) × Answers LineAnswer (lines_of input) text }
-    ensures one { (input s t : List ℕ)
+    ensures some_check { (input : List ℕ) → (text : List ℕ) × Answers LineAnswer (lines_of input) text }
+    ensures one_check { (input s t : List ℕ)
         → Answers LineAnswer (lines_of input) s → Answers LineAnswer (lines_of input) t → s ≡ t }
+    ensures some_encode { (input : List ℕ) → (text : List ℕ) × Answers CodeAnswer (lines_of input) text }
+    ensures one_encode { (input s t : List ℕ)
+        → Answers CodeAnswer (lines_of input) s → Answers CodeAnswer (lines_of input) t → s ≡ t }
 {}
 
 /// At each status, what a run wrote is a beginning of the answers to what it took.
 pub fn what_is_written_begins_the_answers()
-    ensures { (status : Status) → (taken text answers : List ℕ)
+    ensures check { (status : Status) → (taken text answers : List ℕ)
         → Agrees LineAnswer status taken text → Answers LineAnswer (lines_of taken) answers
         → (rest : List ℕ) × (answers ≡ text ++ rest) }
+    ensures encode { (status : Status) → (taken text answers : List ℕ)
+        → Agrees CodeAnswer status taken text → Answers CodeAnswer (lines_of taken) answers
+        → (rest : List ℕ) × (answers ≡ text ++ rest) }
+{}
+
+/// So many pairs have one summary at most, and at each status what `make` wrote is a beginning of it.
+pub fn what_make_writes_begins_the_summary()
+    ensures one { (count : ℕ) → (a b : List ℕ) → IsSummary count a → IsSummary count b → a ≡ b }
+    ensures begins { (count : ℕ) → (status : Status) → (text summary : List ℕ)
+        → IsMadeText count status text → IsSummary count summary
+        → (rest : List ℕ) × (summary ≡ text ++ rest) }
 {}

@@ -4,19 +4,19 @@ ghost use Rattle.std.specs.Prelude.{◌≡◌};
 /// How a run ended.
 #[derive(Debug, Clone, Copy, PartialEq, Eq)]
 pub enum Status {
-    /// The source was read to its end, and each line is answered.
+    /// The source was read to its end, and each line is answered; or the summary of `make` is written.
     Done,
-    /// The words ask for nothing, as `check check`. Nothing was read or written.
+    /// The words ask for nothing, as `check check` and `make 01`. Nothing was read or written.
     BadWords,
     /// A read failed. The lines that had ended are answered.
     ReadFault,
-    /// A write of a line's answer failed. The lines before it are answered.
+    /// A write of a line's answer, or of the summary, failed. The lines before it are answered.
     WriteFault,
     /// A line has more than 2^24 bytes, its end not counted. The lines before it are answered.
     LineTooLong,
     /// 2^48 bytes or more were read, and no end was met. The lines that had ended are answered.
     InputTooLong,
-    /// There is no memory for a line, for its answer or in the sink. The lines before it are answered.
+    /// There is no memory for a line, for its answer, for a pair of `make` or in the sink. The lines before it are answered.
     OutOfMemory,
 }
 

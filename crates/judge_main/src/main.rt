@@ -1,7 +1,8 @@
-//! Judges the lines of standard input, and answers each on standard output.
+//! Answers the lines of standard input on standard output.
 //!
-//! It takes no word, or the word `check`. It ends with the code of the run's status; where the words can't be got from
-//! the system, with 7 for want of memory and else with 1, before anything is read.
+//! With no word, or with the word `check`, it judges the pair of each line. With `encode` it gives the bytes of the JSON text of each,
+//! in hex. With `make` and a number it reads nothing, and judges and counts that many pairs of its own. It ends with the code of the
+//! run's status; where the words can't be got from the system, with 7 for want of memory and else with 1, before anything is read.
 #![tactic(auto)]
 
 ghost use Rattle.std.specs.Prelude.{◌≡◌, ◌⊎◌, map, string_bytes, IfErr, IfOk};
@@ -50,7 +51,7 @@ fn end_code<S: Source, K: Sink>(
     ensures ends { IfOk words (λ texts. Ends (map string_bytes texts.items)
         (S.left source.old) (S.left source.new)
         (K.written sink.old) (K.written sink.new)
-        ((source.new ≡ source.old) × (sink.new ≡ sink.old))
+        (source.new ≡ source.old) ((source.new ≡ source.old) × (sink.new ≡ sink.old))
         (Rose (S.faults source.old) (S.faults source.new))
         (Rose (K.faults sink.old) (K.faults sink.new)) (exit_status result)) }
 {

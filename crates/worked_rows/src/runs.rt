@@ -180,25 +180,46 @@ fn a_long_line_stops_the_run(rt: HostRuntime) -> Result<(), Fail> {
 }
 
 #[test]
-fn words_are_none_or_check(rt: HostRuntime) -> Result<(), Fail> {
+fn words_ask_for_a_command(rt: HostRuntime) -> Result<(), Fail> {
     let alloc = rt.alloc();
     let cases = [
-        (["check"].as_slice(), Status::Done, "valid\n"),
-        (["check", "check"].as_slice(), Status::BadWords, ""),
-        (["Check"].as_slice(), Status::BadWords, ""),
-        ([""].as_slice(), Status::BadWords, ""),
+        (["check"].as_slice(), VALID, Status::Done, "valid\n"),
+        (["check", "check"].as_slice(), VALID, Status::BadWords, ""),
+        (["Check"].as_slice(), VALID, Status::BadWords, ""),
+        ([""].as_slice(), VALID, Status::BadWords, ""),
+        (
+            ["encode"].as_slice(),
+            "[]\nnull\n\"a\"\n1.5\n[",
+            Status::Done,
+            "00000040\n01000050000000c0\n010000500100008061\nFloat\nNotJson\n",
+        ),
+        (["encode", "1"].as_slice(), VALID, Status::BadWords, ""),
+        (["make", "1"].as_slice(), VALID, Status::Done, "pairs 1 valid 1 invalid 0\n"),
+        (["make", "60"].as_slice(), VALID, Status::Done, "pairs 60 valid 51 invalid 9\n"),
+        (
+            ["make", "1000"].as_slice(),
+            VALID,
+            Status::Done,
+            "pairs 1000 valid 502 invalid 498\n",
+        ),
+        (["make"].as_slice(), VALID, Status::BadWords, ""),
+        (["make", "0"].as_slice(), VALID, Status::BadWords, ""),
+        (["make", "01"].as_slice(), VALID, Status::BadWords, ""),
+        (["make", "+1"].as_slice(), VALID, Status::BadWords, ""),
+        (["make", "100001"].as_slice(), VALID, Status::BadWords, ""),
+        (["make", "1", "1"].as_slice(), VALID, Status::BadWords, ""),
     ];
-    for (texts, status, answers) in &cases {
+    for (texts, input, status, answers) in &cases {
         let mut words = Vec::new(alloc);
         for text in *texts {
             words.push(String::from_str(alloc, text)?)?;
         }
-        let mut source = memory_source(alloc, VALID, &[])?;
+        let mut source = memory_source(alloc, input, &[])?;
         let mut sink = MemorySink::new(alloc, Vec::new(alloc));
         assert_eq!(rt; run(alloc, &words, &mut source, &mut sink), *status);
         assert_eq!(rt; sink.written(), answers.as_bytes());
         let mut steady = SteadySink::new();
-        let mut again = memory_source(alloc, VALID, &[])?;
+        let mut again = memory_source(alloc, input, &[])?;
         assert_eq!(rt; run(alloc, &words, &mut again, &mut steady), *status);
     }
     Ok(())

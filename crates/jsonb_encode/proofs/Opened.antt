@@ -103,13 +103,15 @@ unfolding opened
 apart f count n xs base piece lt =
     let k : 4 * (n - length xs) ≡ 4 + 4 * (n - (length xs + 1)) = omega arith in
     let z : replicate (4 * (n - length xs)) 0 ≡ replicate 4 0 ++ replicate (4 * (n - (length xs + 1))) 0 =
-    ap (λ (m : ℕ). replicate m 0) k ∙ sym {a = replicate 4 0 ++ replicate (4 * (n - (length xs + 1))) 0} (replicate-append-replicate 4 (4 * (n - (length xs + 1))) 0) in
+    ap (λ (m : ℕ). replicate m 0) k ∙ sym {a = replicate 4 0 ++ replicate (4 * (n - (length xs + 1))) 0}
+    (replicate-append-replicate 4 (4 * (n - (length xs + 1))) 0) in
     ap (λ (zs : List ℕ). (base ++ (front f count xs ++ (zs ++ pieces xs))) ++ piece) z
     ∙ regroup base (front f count xs) (replicate 4 0) (replicate (4 * (n - (length xs + 1))) 0) (pieces xs) piece
 
 together : (f : Form) (count n : ℕ) (xs : List Item) (x : Item) (base : List ℕ)
     → (base ++ front f count xs)
-    ++ (to_le_bytes w32 (entry (length xs) (length (pieces xs) + length x.piece) x) ++ (replicate (4 * (n - (length xs + 1))) 0 ++ (pieces xs ++ x.piece)))
+    ++ (to_le_bytes w32 (entry (length xs) (length (pieces xs) + length x.piece) x) ++
+    (replicate (4 * (n - (length xs + 1))) 0 ++ (pieces xs ++ x.piece)))
     ≡ base ++ opened f count n (xs ++ x ∷ [])
 unfolding opened
 together f count n xs x base =

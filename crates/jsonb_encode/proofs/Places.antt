@@ -111,7 +111,8 @@ spans first last n N F s g l = elim (counts first F) [
         ];
         above = λ i le. above i (pos i -ℤ pos F) a.0 a.1 le (omega (arith, ints));
         first = λ z. g.some (sym (digit first a.0 n N F s a.1) ∙ z);
-        below = λ i lt. let p = pos i -ℤ pos F in let e : p +ℤ pos F ≡ pos i = omega (arith, ints) in digit p i n N F s e ∙ below p i last b.0 b.1 e lt;
+        below = λ i lt. let p = pos i -ℤ pos F in let e : p +ℤ pos F ≡ pos i = omega (arith, ints) in digit p i n N F s e ∙ below p i last
+        b.0 b.1 e lt;
         last = λ z. l.some (sym (digit last b.0 n N F s b.1) ∙ z);
       };
     }
@@ -149,7 +150,8 @@ run_length first zero n = refl
 run_length first (suc k) n = omega (arith, length-append (groups_down first k n) (group (first -ℤ pos k) n ∷ []), run_length first k n)
 
 -- of a number that is not 0, the groups from the first to the last are all
-pub all_groups : (first last : ℤ) (n : ℕ) (w : Decimal) (s : Scaled n (magnitude w) (fraction_groups w.places)) (p : Spans first last n (magnitude w) (fraction_groups w.places)) (k : ℕ)
+pub all_groups : (first last : ℤ) (n : ℕ) (w : Decimal) (s : Scaled n (magnitude w) (fraction_groups w.places))
+    (p : Spans first last n (magnitude w) (fraction_groups w.places)) (k : ℕ)
     → k ≡ suc p.top - p.z → groups_down first k n ≡ groups w
 unfolding groups
 all_groups first last n w s p k e =

@@ -21,7 +21,8 @@ use Rattle.jsonb_encode.proofs.Opened.{opened_whole}
 pub lone_is : (f : NumericForm) (t : Tree) (at kind : ℕ) (base mid old new : List ℕ) → at ≡ 0 → IsWritten f t at mid old kind
     → IsOpen Lone 1 1 ([] ++ item_of kind (item f t at).piece ∷ []) base new → IsLone f t base new
 lone_is f t at kind base mid old new e w h =
-    let same : item_of kind (item f t at).piece ≡ item f t 0 = ap (λ (k : ℕ). item_of k (item f t at).piece) (sym w.kind_is) ∙ ap (λ (n : ℕ). item f t n) e in
+    let same : item_of kind (item f t at).piece ≡ item f t 0 = ap (λ (k : ℕ). item_of k (item f t at).piece) (sym w.kind_is) ∙ ap
+    (λ (n : ℕ). item f t n) e in
     let o = subst (λ (x : Item). IsOpen Lone 1 1 (x ∷ []) base new) same h in
     record {
       bytes = o.bytes ∙ ap (λ (xs : List ℕ). base ++ xs) (opened_whole Lone 1 1 (item f t 0 ∷ []) refl);
@@ -58,7 +59,8 @@ pub array_ok : (f : NumericForm) (t : Tree) (ts : Elements) (r : Result Unit Enc
     → IfOk r (λ _. IsWhole f (array ts) base new) → IfOk r (λ _. IsRoot f t base new)
 array_ok f t ts r base new e h =
     subst (λ (u : Tree). IfOk r (λ _. IsRoot f u base new)) (sym e)
-    (IfOk-weaker r (λ _. IsWhole f (array ts) base new) (λ _. IsRoot f (array ts) base new) (λ _ k. record { bytes = k.bytes; within = k.small; value = k.value }) h)
+    (IfOk-weaker r (λ _. IsWhole f (array ts) base new) (λ _. IsRoot f (array ts) base new)
+    (λ _ k. record { bytes = k.bytes; within = k.small; value = k.value }) h)
 
 pub array_err : (f : NumericForm) (t : Tree) (ts : Elements) (r : Result Unit EncodeError) → t ≡ array ts
     → IfErr r (λ x. IsUnwritten f (array ts) x) → IfErr r (λ x. IsNoRoot f t x)
@@ -68,7 +70,8 @@ pub object_ok : (f : NumericForm) (t : Tree) (ms : Members) (r : Result Unit Enc
     → IfOk r (λ _. IsWhole f (object ms) base new) → IfOk r (λ _. IsRoot f t base new)
 object_ok f t ms r base new e h =
     subst (λ (u : Tree). IfOk r (λ _. IsRoot f u base new)) (sym e)
-    (IfOk-weaker r (λ _. IsWhole f (object ms) base new) (λ _. IsRoot f (object ms) base new) (λ _ k. record { bytes = k.bytes; within = k.small; value = k.value }) h)
+    (IfOk-weaker r (λ _. IsWhole f (object ms) base new) (λ _. IsRoot f (object ms) base new)
+    (λ _ k. record { bytes = k.bytes; within = k.small; value = k.value }) h)
 
 pub object_err : (f : NumericForm) (t : Tree) (ms : Members) (r : Result Unit EncodeError) → t ≡ object ms
     → IfErr r (λ x. IsUnwritten f (object ms) x) → IfErr r (λ x. IsNoRoot f t x)

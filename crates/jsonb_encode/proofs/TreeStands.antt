@@ -69,7 +69,8 @@ scalar_stands f (boolean b) at h fit = (refl, refl)
 scalar_stands f (string s) at h fit = (refl, refl)
 scalar_stands f (number d) at h fit = (refl, (numeric f d, refl, number_stands f d h fit))
 
-array_laid : (f : NumericForm) (ts : Elements) → AreSmall f (array ts) → Laid (container Array (count_elements ts) (array_items f ts)) Array (array_items f ts)
+array_laid : (f : NumericForm) (ts : Elements) → AreSmall f (array ts) → Laid (container Array (count_elements ts) (array_items f ts))
+    Array (array_items f ts)
 array_laid f ts small = record {
   count = count_elements ts;
   counted = element_counts f ts 0;
@@ -79,7 +80,8 @@ array_laid f ts small = record {
   bytes = refl;
 }
 
-object_laid : (f : NumericForm) (ms : Members) → AreSmall f (object ms) → Laid (container Object (count_members ms) (object_items f ms)) Object (object_items f ms)
+object_laid : (f : NumericForm) (ms : Members) → AreSmall f (object ms) → Laid (container Object (count_members ms) (object_items f ms))
+    Object (object_items f ms)
 object_laid f ms small = record {
   count = count_members ms;
   counted = omega (arith, length-append (key_items ms) (value_items f ms (key_bytes ms)), key_counts ms, value_counts f ms (key_bytes ms));
@@ -93,10 +95,12 @@ mutual
   unfolding item
 
   -- the item of a tree stands for it
-  pub item_stands : (f : NumericForm) (t : Tree) (at : ℕ) → KeysRise t → HasExactNumbers t → IsTrue (all_fit f t) → AreSmall f t → IsItem t at (item f t at)
+  pub item_stands : (f : NumericForm) (t : Tree) (at : ℕ) → KeysRise t → HasExactNumbers t → IsTrue (all_fit f t) → AreSmall f t → IsItem t
+      at (item f t at)
   item_stands f (scalar s) at rise exact fit small = scalar_stands f s at exact fit
   item_stands f (array ts) at rise exact fit small =
-      (refl, (container Array (count_elements ts) (array_items f ts), refl, (array_items f ts, array_laid f ts small, elements_stand f ts 0 rise exact fit small.1)))
+      (refl, (container Array (count_elements ts) (array_items f ts), refl,
+      (array_items f ts, array_laid f ts small, elements_stand f ts 0 rise exact fit small.1)))
   item_stands f (object ms) at rise exact fit small = (
     refl,
     (
@@ -106,14 +110,16 @@ mutual
     ),
   )
 
-  pub elements_stand : (f : NumericForm) (ts : Elements) (at : ℕ) → KeysRiseInElements ts → ElementsHaveExactNumbers ts → IsTrue (elements_fit f ts) → ElementsAreSmall f ts
+  pub elements_stand : (f : NumericForm) (ts : Elements) (at : ℕ) → KeysRiseInElements ts → ElementsHaveExactNumbers ts → IsTrue
+      (elements_fit f ts) → ElementsAreSmall f ts
       → AreElements ts at (element_items f ts at)
   elements_stand f no_elements at rise exact fit small = tt
   elements_stand f (element t ts) at rise exact fit small =
       let b = and_parts (all_fit f t) (elements_fit f ts) fit in
       (item_stands f t at rise.0 exact.0 b.0 small.0, elements_stand f ts (at + length (item f t at).piece) rise.1 exact.1 b.1 small.1)
 
-  pub values_stand : (f : NumericForm) (ms : Members) (at : ℕ) → KeysRiseInMembers ms → MembersHaveExactNumbers ms → IsTrue (members_fit f ms) → MembersAreSmall f ms
+  pub values_stand : (f : NumericForm) (ms : Members) (at : ℕ) → KeysRiseInMembers ms → MembersHaveExactNumbers ms → IsTrue
+      (members_fit f ms) → MembersAreSmall f ms
       → AreValues ms at (value_items f ms at)
   values_stand f no_members at rise exact fit small = tt
   values_stand f (member k t ms) at rise exact fit small =
@@ -140,7 +146,8 @@ tree_stands f (object ms) h fit within =
     (value_items f ms (key_bytes ms), object_laid f ms within, h.rise.0, values_stand f ms (key_bytes ms) h.rise.1 h.exact fit within.1)
 
 -- the canonical bytes of a tree are those of no other
-pub canonical_apart : (t u : Tree) → IsOfValue t → IsOfValue u → IsWithinLimits Short t → IsWithinLimits Short u → (canonical t ≡ canonical u) ↔ (t ≡ u)
+pub canonical_apart : (t u : Tree) → IsOfValue t → IsOfValue u → IsWithinLimits Short t → IsWithinLimits Short u →
+    (canonical t ≡ canonical u) ↔ (t ≡ u)
 canonical_apart t u a b v w = (
   λ e. one_tree (canonical t) t u (tree_stands Short t a (short_always t) v)
       (subst (λ (x : List ℕ). Stands x u) (sym e) (tree_stands Short u b (short_always u) w)),

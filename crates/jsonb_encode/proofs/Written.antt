@@ -129,7 +129,8 @@ not_smaller f ks us vs t at e =
     let x = item f t n in
     let rest = element_items f (elements_from vs) (n + length x.piece) in
     let whole = listed_more f ks us (t ∷ vs) in
-    let size = ap (λ (xs : List Item). length (pieces xs)) whole ∙ ap length (pieces_more (listed f ks us) (x ∷ rest)) ∙ length-append (pieces (listed f ks us)) (x.piece ++ pieces rest) in
+    let size = ap (λ (xs : List Item). length (pieces xs)) whole ∙ ap length (pieces_more (listed f ks us) (x ∷ rest)) ∙ length-append
+    (pieces (listed f ks us)) (x.piece ++ pieces rest) in
     let last = length-append x.piece (pieces rest) in
     let same : length (item f t at).piece ≡ length x.piece = ap (λ (k : ℕ). length (item f t k).piece) e in
     omega arith
@@ -214,11 +215,13 @@ object_whole f ps before after lt rise open_is good =
 pub many_elements : (f : NumericForm) (ts : List Tree) → 2 ^ 28 ≤ length ts → IsUnwritten f (array (elements_from ts)) TooLarge
 many_elements f ts le = inr (refl, λ h. let s = h.0.0 in omega (arith, count_is ts))
 
-pub element_large : (f : NumericForm) (us vs : List Tree) (t : Tree) (e : EncodeError) → IsUnwritten f t e → IsUnwritten f (array (elements_from (us ++ t ∷ vs))) e
+pub element_large : (f : NumericForm) (us vs : List Tree) (t : Tree) (e : EncodeError) → IsUnwritten f t e → IsUnwritten f
+    (array (elements_from (us ++ t ∷ vs))) e
 element_large f us vs t e (inl h) = inl h
 element_large f us vs t e (inr h) = inr (h.0, λ s. h.1 (small_inside f us vs t s.1))
 
-pub elements_large : (f : NumericForm) (us vs : List Tree) (t : Tree) (at : ℕ) (e : EncodeError) → at ≡ length (pieces (listed f [] us)) → e ≡ TooLarge
+pub elements_large : (f : NumericForm) (us vs : List Tree) (t : Tree) (at : ℕ) (e : EncodeError) → at ≡ length (pieces (listed f [] us)) →
+    e ≡ TooLarge
     → 2 ^ 28 ≤ length (pieces (listed f [] us)) + length (item f t at).piece → IsUnwritten f (array (elements_from (us ++ t ∷ vs))) e
 elements_large f us vs t at e a h le = inr (h, λ s. let k = s.0.1 in let n = not_smaller f [] us vs t at a in omega arith)
 
@@ -236,7 +239,8 @@ unkeyed f ps e (inr h) = inr (
   ],
 )
 
-pub member_large : (f : NumericForm) (ps : Pairs) (us vs : List Tree) (t : Tree) (e : EncodeError) → map (λ p. p.1) ps ≡ us ++ t ∷ vs → IsUnwritten f t e
+pub member_large : (f : NumericForm) (ps : Pairs) (us vs : List Tree) (t : Tree) (e : EncodeError) → map (λ p. p.1) ps ≡ us ++ t ∷ vs →
+    IsUnwritten f t e
     → IsUnwritten f (object (members_from ps)) e
 member_large f ps us vs t e split (inl h) = inl h
 member_large f ps us vs t e split (inr h) = inr (
@@ -280,7 +284,8 @@ tree-string s = search (rules, the_lemmas)
 pub tree-number : (w : Decimal) → tree (OfNumber w) ≡ scalar (number w)
 tree-number w = search (rules, the_lemmas)
 
-pub wrote_string : (f : NumericForm) (s : List ℕ) (at : ℕ) (before after : List ℕ) → after ≡ before ++ s → IsWritten f (scalar (string s)) at before after 0
+pub wrote_string : (f : NumericForm) (s : List ℕ) (at : ℕ) (before after : List ℕ) → after ≡ before ++ s → IsWritten f (scalar (string s))
+    at before after 0
 unfolding item
 wrote_string f s at before after e = record { kind_is = refl; bytes = e; small = tt; value = record { rise = tt; exact = tt } }
 
@@ -294,7 +299,8 @@ wrote_array f ts at before mid after e w = record {
   value = w.value;
 }
 
-pub wrote_object : (f : NumericForm) (ms : Members) (at : ℕ) (before mid after : List ℕ) → mid ≡ before ++ padding at → IsWhole f (object ms) mid after
+pub wrote_object : (f : NumericForm) (ms : Members) (at : ℕ) (before mid after : List ℕ) → mid ≡ before ++ padding at → IsWhole f
+    (object ms) mid after
     → IsWritten f (object ms) at before after 5
 unfolding item encoded
 wrote_object f ms at before mid after e w = record {
@@ -386,7 +392,8 @@ pub next_item : (f : NumericForm) (ks : List Item) (us : List Tree) (t : Tree) (
 next_item f ks us t g n m at kind base mid old new e w h =
     subst (λ (xs : List Item). IsOpen g n m xs base new) (listed_last f ks us t at kind e w.kind_is) h
 
-pub next_good : (f : NumericForm) (us : List Tree) (t : Tree) (at kind : ℕ) (mid old : List ℕ) → AreGood f (elements_from us) → IsWritten f t at mid old kind
+pub next_good : (f : NumericForm) (us : List Tree) (t : Tree) (at kind : ℕ) (mid old : List ℕ) → AreGood f (elements_from us) → IsWritten f
+    t at mid old kind
     → AreGood f (elements_from (us ++ t ∷ []))
 next_good f us t at kind mid old g w = good_last f us t g w.small w.value
 

@@ -44,7 +44,8 @@ no_truth : (a : Bool) (e : JudgeError) → ◌≡◌ {A = Answer} (Ok a) (Err e)
 no_truth a e h = absurd cc
 
 -- where the bytes of two trees get a verdict, it is that of the trees
-module _ (keywords_bytes document_bytes : List ℕ) (k d : Tree) (stands : Stands keywords_bytes k) (stands_too : Stands document_bytes d) (valid : Bool) where
+module _ (keywords_bytes document_bytes : List ℕ) (k d : Tree) (stands : Stands keywords_bytes k) (stands_too : Stands document_bytes d)
+    (valid : Bool) where
   by_document : (s : Result Tree JsonbError) → IsRead document_bytes s → RightOf k s (Ok valid) → IsTrue valid ↔ Verdict k d
   by_document (Err e) reads right = absurd (no_truth valid (document_error e) right)
   by_document (Ok u) reads right =

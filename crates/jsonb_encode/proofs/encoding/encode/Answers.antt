@@ -10,4 +10,5 @@ use Rattle.jsonb_encode.proofs.encoding.encode.Goals as goal
 pub returns-clause-causes : goal.returns-clause-causes
 returns-clause-causes c =
     let t = tree c.args.value.now in
-    no_misfit c.encode_with.result (all_fit Short t) (λ e. (e ≡ TooLarge) ⊎ (e ≡ OutOfMemory)) (short_always t) c.encode_with.ensures.does_not_fit c.encode_with.ensures.causes
+    no_misfit c.encode_with.result (all_fit Short t) (λ e. (e ≡ TooLarge) ⊎ (e ≡ OutOfMemory)) (short_always t)
+    c.encode_with.ensures.does_not_fit c.encode_with.ensures.causes

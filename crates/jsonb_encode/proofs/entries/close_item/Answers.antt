@@ -9,7 +9,8 @@ use Rattle.jsonb_encode.proofs.entries.close_item.Goals as goal
 pub returns-then-upto-ge-LIMIT : goal.returns-then-upto-ge-LIMIT
 returns-then-upto-ge-LIMIT c = λ base mid piece f count xs start index open_is begin old.
     let lt = c.requires.index in
-    let e = payload_length f count c.args.items xs base mid piece c.args.bytes.now.items c.args.start c.args.begin start (omega arith) open_is begin old in
+    let e = payload_length f count c.args.items xs base mid piece c.args.bytes.now.items c.args.start c.args.begin start (omega arith)
+    open_is begin old in
     let l = c.len.ensures in
     let u = c.if-upto-ge-LIMIT.true in
     (refl, omega (arith, e.0))
@@ -17,7 +18,8 @@ returns-then-upto-ge-LIMIT c = λ base mid piece f count xs start index open_is 
 pub returns : goal.returns
 returns c = λ base mid piece f count xs start index open_is begin old.
     let lt = c.requires.index in
-    let e = payload_length f count c.args.items xs base mid piece c.args.bytes.now.items c.args.start c.args.begin start (omega arith) open_is begin old in
+    let e = payload_length f count c.args.items xs base mid piece c.args.bytes.now.items c.args.start c.args.begin start (omega arith)
+    open_is begin old in
     let k = kind_number c.args.kind in
     let upto : c.len.result - c.args.start - 4 * c.args.items - 4 ≡ length (pieces xs) + length piece = omega (arith, e.0, c.len.ensures) in
     let own : c.len-2.result - c.args.begin ≡ length piece = omega (arith, e.1, c.len-2.ensures) in

@@ -28,5 +28,6 @@ loop-index-preserved c =
     let f : SFits w32 c.below.result = search rules in
     let g : SFits w32 c.args.span.first = search rules in
     let at = c.below.ensures ∙ ap (λ (p : ℤ). p -ℤ pos c.loop-index.index) (to_z-of_z w32 c.args.span.first g) in
-    one_more c.args.span.first c.below.result c.loop-index.index (nat_abs c.args.decimal.now) c.group.result c.args.bytes.now.items c.loop-index.bytes.items
+    one_more c.args.span.first c.below.result c.loop-index.index (nat_abs c.args.decimal.now) c.group.result c.args.bytes.now.items
+    c.loop-index.bytes.items
     c.push_half.new.bytes.items f at c.group.ensures c.loop-index.invariant c.in_ok-push_half.ensures.ok

@@ -8,7 +8,8 @@ use Rattle.jsonb_encode.specs.inner.Writing.{groups_down}
 use Rattle.jsonb_encode.proofs.Spans.{Some, some_of, zero_groups, zero_lift, is_none, is_some, some_lift}
 use Rattle.jsonb_encode.proofs.number.span_of.Goals as goal
 
-none : (d first : ℤ) (g : ℕ) → SFits w32 first → ((d ≡ pos 0 → ⊥) → IsGreatestPlace (nat_abs d) first) → g ≡ group (to_z w32 (of_z w32 first)) (nat_abs d) → g ≡ 0
+none : (d first : ℤ) (g : ℕ) → SFits w32 first → ((d ≡ pos 0 → ⊥) → IsGreatestPlace (nat_abs d) first) → g ≡ group
+    (to_z w32 (of_z w32 first)) (nat_abs d) → g ≡ 0
     → d ≡ pos 0
 none d first g f greatest e z = is_none d first greatest (ap (λ (p : ℤ). group p (nat_abs d)) (sym (to_z-of_z w32 first f)) ∙ sym e ∙ z)
 
@@ -61,7 +62,8 @@ returns c =
     record {
       groups = λ w worth le. ap (λ (p : ℤ). groups_down p c.places_between.result (nat_abs d)) a ∙ k.all c.places_between.result w worth le count;
       lift = λ w worth le. ap (λ (p : ℤ). p +ℤ pos 32768) a
-          ∙ some_lift d c.weight-first.result c.last_place-last.result w worth le (c.weight-first.ensures.greatest s) (c.last_place-last.ensures.least s);
+          ∙ some_lift d c.weight-first.result c.last_place-last.result w worth le (c.weight-first.ensures.greatest s)
+          (c.last_place-last.ensures.least s);
       few = k.few c.places_between.result count;
       low = subst (λ (p : ℤ). pos 0 ≤ℤ (p +ℤ pos 4096)) (sym a) k.first_low;
       high = subst (λ (p : ℤ). p <ℤ pos 32768) (sym a) k.high;

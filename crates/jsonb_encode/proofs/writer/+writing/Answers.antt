@@ -27,7 +27,8 @@ write_elements-returns-then-count-ge-LIMIT-clause-err t c =
 
 pub write_elements-loop-i-init : goal.write_elements-loop-i-init
 write_elements-loop-i-init t c = record {
-  open_is = subst (λ xs. IsOpen Array (length c.args.elements.now) (length c.args.elements.now) xs c.args.bytes.now.items c.open_container.new.bytes.items)
+  open_is = subst (λ xs. IsOpen Array (length c.args.elements.now) (length c.args.elements.now) xs c.args.bytes.now.items
+  c.open_container.new.bytes.items)
       (sym (listed_none c.args.form [])) c.in_ok-open_container.ensures.ok;
   good = record { small = tt; rise = tt; exact = tt };
 }
@@ -42,7 +43,8 @@ write_elements-write_value-requires t c =
     (element_nests vs i v c.loop-i-test.true) in
     let split = split_at vs i v c.loop-i-test.true c.index-elements-i.is in
     let lt = c.loop-i-test.true in
-    let place = place_is c.args.form [] us Array (length vs) (length vs) (c.len-start.result + 4 * length vs + 4) c.args.bytes.now.items c.loop-i.bytes.items
+    let place = place_is c.args.form [] us Array (length vs) (length vs) (c.len-start.result + 4 * length vs + 4) c.args.bytes.now.items
+    c.loop-i.bytes.items
     (omega (arith, taken_count vs i (omega arith))) c.loop-i.invariant.open_is (omega (arith, c.len-start.ensures)) in (
       omega (arith, inside, c.decreases),
       (
@@ -69,7 +71,8 @@ write_elements-close_item-requires-clause-begin t c =
     let i = c.loop-i.i in
     let us = map tree (take i vs) in
     let lt = c.loop-i-test.true in
-    let place = place_is c.args.form [] us Array (length vs) (length vs) (c.len-start.result + 4 * length vs + 4) c.args.bytes.now.items c.loop-i.bytes.items
+    let place = place_is c.args.form [] us Array (length vs) (length vs) (c.len-start.result + 4 * length vs + 4) c.args.bytes.now.items
+    c.loop-i.bytes.items
     (omega (arith, taken_count vs i (omega arith))) c.loop-i.invariant.open_is (omega (arith, c.len-start.ensures)) in
     omega (arith, place.0, c.len-begin.ensures)
 
@@ -87,10 +90,12 @@ write_elements-returns-in_err-close_item-clause-err t c =
     let lt = c.loop-i-test.true in
     let payload = c.len-start.result + 4 * length vs + 4 in
     let count = taken_count vs i (omega arith) in
-    let place = place_is f [] us Array (length vs) (length vs) payload base mid (omega (arith, count)) c.loop-i.invariant.open_is (omega (arith, c.len-start.ensures)) in
+    let place = place_is f [] us Array (length vs) (length vs) payload base mid (omega (arith, count)) c.loop-i.invariant.open_is
+    (omega (arith, c.len-start.ensures)) in
     let w = c.in_ok-kind.ensures.ok in
     let told = c.in_err-close_item.ensures base mid (item f (tree v) (length mid - payload)).piece Array (length vs) (listed f [] us)
-    (omega (arith, c.len-start.ensures)) (listed_count f [] us ∙ (let z : 0 + length us ≡ i = omega (arith, count) in z)) c.loop-i.invariant.open_is (omega (arith, c.len-begin.ensures)) w.bytes in
+    (omega (arith, c.len-start.ensures)) (listed_count f [] us ∙ (let z : 0 + length us ≡ i = omega (arith, count) in z))
+    c.loop-i.invariant.open_is (omega (arith, c.len-begin.ensures)) w.bytes in
     err_as c.from_residual-in_err-close_item.result e (λ (x : EncodeError). IsUnwritten f (array (elements_from (map tree vs))) x) (search rules)
     (subst (λ (ts : List Tree). IsUnwritten f (array (elements_from ts)) e) (sym split)
     (elements_large f us (map tree (drop (suc i) vs)) (tree v) (length mid - payload) e place.1 told.0 told.1))
@@ -113,7 +118,8 @@ write_elements-loop-i-preserved t c =
     let place = place_is f [] us Array n n payload base mid (omega (arith, count)) c.loop-i.invariant.open_is (omega (arith, c.len-start.ensures)) in
     let w = c.in_ok-kind.ensures.ok in
     let told = c.in_ok-close_item.ensures base mid (item f (tree v) at).piece Array n (listed f [] us)
-    (omega (arith, c.len-start.ensures)) (listed_count f [] us ∙ (let z : 0 + length us ≡ i = omega (arith, count) in z)) c.loop-i.invariant.open_is (omega (arith, c.len-begin.ensures)) w.bytes in
+    (omega (arith, c.len-start.ensures)) (listed_count f [] us ∙ (let z : 0 + length us ≡ i = omega (arith, count) in z))
+    c.loop-i.invariant.open_is (omega (arith, c.len-begin.ensures)) w.bytes in
     let step = taken vs i v lt c.index-elements-i.is in
     record {
       open_is = subst (λ (ts : List Tree). IsOpen Array n n (listed f [] ts) base c.close_item.new.bytes.items) step
@@ -128,7 +134,8 @@ write_elements-returns-clause-ok t c =
     let n = length vs in
     let all = taken_all vs c.loop-i.i c.loop-i-test.false in
     array_whole c.args.form (map tree vs) n c.args.bytes.now.items c.loop-i.bytes.items (trees_count vs) (omega (arith, c.if-count-ge-LIMIT.false))
-    (subst (λ (ts : List Tree). IsOpen Array n n (listed c.args.form [] ts) c.args.bytes.now.items c.loop-i.bytes.items) all c.loop-i.invariant.open_is)
+    (subst (λ (ts : List Tree). IsOpen Array n n (listed c.args.form [] ts) c.args.bytes.now.items c.loop-i.bytes.items) all
+    c.loop-i.invariant.open_is)
     (subst (λ (ts : List Tree). AreGood c.args.form (elements_from ts)) all c.loop-i.invariant.good)
 
 -- ---- objects
@@ -143,13 +150,15 @@ write_members-returns-in_err-write_keys-clause-err t c =
 pub write_members-loop-value-init : goal.write_members-loop-value-init
 write_members-loop-value-init t c =
     let ps = pairs c.args.members.now in
-    let all : left c.into_iter-value-iterator.result ≡ ps = ap (λ it. left it) c.into_iter-value-iterator.ensures.into_iter_gives ∙ c.iter-value-items.ensures.pairs in (
+    let all : left c.into_iter-value-iterator.result ≡ ps = ap (λ it. left it) c.into_iter-value-iterator.ensures.into_iter_gives ∙
+    c.iter-value-items.ensures.pairs in (
       [],
       record {
         parts = sym all;
         index = omega arith;
         inside = omega (arith, ap (λ (qs : Pairs). nest_members (members_from qs)) all);
-        open_is = begin_values c.args.form ps c.len-count.result c.args.bytes.now.items c.write_keys.new.bytes.items c.len-count.ensures c.in_ok-write_keys.ensures.ok;
+        open_is = begin_values c.args.form ps c.len-count.result c.args.bytes.now.items c.write_keys.new.bytes.items c.len-count.ensures
+        c.in_ok-write_keys.ensures.ok;
         good = record { small = tt; rise = tt; exact = tt };
       },
     )
@@ -196,7 +205,8 @@ write_members-close_item-requires-clause-begin t c =
     let p : List ℕ × Tree = (c.in-Some.field-0-0.now, tree c.in-Some.value.now) in
     let us = map {A = List ℕ × Tree} {B = Tree} (λ p. p.1) inv.0 in
     let done = done_count inv.0 (left c.loop-value.value-iterator) (left c.next.new.self) ps p inv.1.parts c.in-Some.ensures.steps in
-    let place = place_is c.args.form (pair_keys ps) us Object n (2 * n) (c.len-start.result + 8 * n + 4) c.args.bytes.now.items c.loop-value.bytes.items
+    let place = place_is c.args.form (pair_keys ps) us Object n (2 * n) (c.len-start.result + 8 * n + 4) c.args.bytes.now.items
+    c.loop-value.bytes.items
     (omega (arith, keys_count ps, pairs_count inv.0, c.len-count.ensures)) inv.1.open_is (omega (arith, c.len-start.ensures)) in
     omega (arith, place.0, c.len-begin.ensures)
 
@@ -255,7 +265,8 @@ write_members-loop-value-preserved t c =
         index = omega (arith, length-append inv.0 (p ∷ []), inv.1.index);
         inside = omega (arith, nests, inv.1.inside);
         open_is = subst (λ (ts : List Tree). IsOpen Object n (2 * n) (listed f (pair_keys ps) ts) base c.close_item.new.bytes.items) more
-            (next_item f (pair_keys ps) us p.1 Object n (2 * n) at kind base mid c.write_value.new.bytes.items c.close_item.new.bytes.items place.1 w told);
+            (next_item f (pair_keys ps) us p.1 Object n (2 * n) at kind base mid c.write_value.new.bytes.items c.close_item.new.bytes.items
+            place.1 w told);
         good = subst (λ (ts : List Tree). AreGood f (elements_from ts)) more
             (next_good f us p.1 at kind mid c.write_value.new.bytes.items inv.1.good w);
       },
@@ -272,23 +283,27 @@ write_members-returns-clause-ok t c =
     let all : inv.0 ≡ ps = sym (inv.1.parts ∙ ap (λ (qs : Pairs). inv.0 ++ qs) c.in-None.ensures.steps.0 ∙ append-nil inv.0) in
     object_whole f ps base mid keyed.few keyed.rise
     (subst (λ (m : ℕ). IsOpen Object m (2 * m) (listed f (pair_keys ps) (map (λ p. p.1) ps)) base mid) c.len-count.ensures
-    (subst (λ (qs : Pairs). IsOpen Object c.len-count.result (2 * c.len-count.result) (listed f (pair_keys ps) (map (λ p. p.1) qs)) base mid) all inv.1.open_is))
+    (subst (λ (qs : Pairs). IsOpen Object c.len-count.result (2 * c.len-count.result) (listed f (pair_keys ps) (map (λ p. p.1) qs)) base
+    mid) all inv.1.open_is))
     (subst (λ (qs : Pairs). AreGood f (elements_from (map (λ p. p.1) qs))) all inv.1.good)
 
 -- ---- one value
 
-padded : (payload n : ℕ) (before mid : List ℕ) → n ≡ length before → mid ≡ before ++ padding (n - payload) → mid ≡ before ++ padding (length before - payload)
+padded : (payload n : ℕ) (before mid : List ℕ) → n ≡ length before → mid ≡ before ++ padding (n - payload) → mid ≡ before ++ padding
+    (length before - payload)
 padded payload n before mid e h = h ∙ ap (λ (k : ℕ). before ++ padding (k - payload)) e
 
 pub write_value-returns-in-Null-clause-ok : goal.write_value-returns-in-Null-clause-ok
 write_value-returns-in-Null-clause-ok t c =
     let b = c.args.bytes.now.items in
-    subst (λ (u : Tree). IsWritten c.args.form u (length b - c.args.payload) b b 4) (sym (ap tree c.in-Null.is ∙ tree-null)) (wrote_null c.args.form (length b - c.args.payload) b)
+    subst (λ (u : Tree). IsWritten c.args.form u (length b - c.args.payload) b b 4) (sym (ap tree c.in-Null.is ∙ tree-null))
+    (wrote_null c.args.form (length b - c.args.payload) b)
 
 pub write_value-returns-in-Bool-clause-ok : goal.write_value-returns-in-Bool-clause-ok
 write_value-returns-in-Bool-clause-ok t c =
     let b = c.args.bytes.now.items in
-    subst (λ (u : Tree). IsWritten c.args.form u (length b - c.args.payload) b b (kind_number c.of_boolean.result)) (sym (ap tree c.in-Bool.is ∙ tree-bool c.in-Bool.truth))
+    subst (λ (u : Tree). IsWritten c.args.form u (length b - c.args.payload) b b (kind_number c.of_boolean.result))
+    (sym (ap tree c.in-Bool.is ∙ tree-bool c.in-Bool.truth))
     (wrote_boolean c.args.form c.in-Bool.truth (length b - c.args.payload) (kind_number c.of_boolean.result) b c.of_boolean.ensures)
 
 pub write_value-returns-in_ok-push_all-in-String-clause-ok : goal.write_value-returns-in_ok-push_all-in-String-clause-ok
@@ -304,25 +319,35 @@ pub write_value-returns-in_ok-write_number-in-Number-clause-ok : goal.write_valu
 write_value-returns-in_ok-write_number-in-Number-clause-ok t c =
     let b = c.args.bytes.now.items in
     let w = c.in_ok-write_number-in-Number.ensures in
-    let mid = padded c.args.payload c.len.result b c.push_padding.new.bytes.items (omega (arith, c.len.ensures)) c.in_ok-push_padding-in-Number.ensures.ok in
-    subst (λ (u : Tree). IsWritten c.args.form u (length b - c.args.payload) b c.write_number.new.bytes.items 1) (sym (ap tree c.in-Number.is ∙ tree-number c.in-Number.number))
-    (wrote_number c.args.form c.in-Number.number (length b - c.args.payload) b c.push_padding.new.bytes.items c.write_number.new.bytes.items mid w.ok w.exact)
+    let mid = padded c.args.payload c.len.result b c.push_padding.new.bytes.items (omega (arith, c.len.ensures))
+    c.in_ok-push_padding-in-Number.ensures.ok in
+    subst (λ (u : Tree). IsWritten c.args.form u (length b - c.args.payload) b c.write_number.new.bytes.items 1)
+    (sym (ap tree c.in-Number.is ∙ tree-number c.in-Number.number))
+    (wrote_number c.args.form c.in-Number.number (length b - c.args.payload) b c.push_padding.new.bytes.items
+    c.write_number.new.bytes.items mid w.ok w.exact)
 
 pub write_value-returns-in_ok-write_elements-in-Array-clause-ok : goal.write_value-returns-in_ok-write_elements-in-Array-clause-ok
 write_value-returns-in_ok-write_elements-in-Array-clause-ok t c =
     let b = c.args.bytes.now.items in
     let v = c.in-Array.elements in
-    let mid = padded c.args.payload c.len-in-Array.result b c.push_padding-in-Array.new.bytes.items (omega (arith, c.len-in-Array.ensures)) c.in_ok-push_padding-in-Array.ensures.ok in
-    subst (λ (u : Tree). IsWritten c.args.form u (length b - c.args.payload) b c.write_elements.new.bytes.items 5) (sym (ap tree c.in-Array.is ∙ tree-array v))
-    (wrote_array c.args.form (elements_from (map tree v.items)) (length b - c.args.payload) b c.push_padding-in-Array.new.bytes.items c.write_elements.new.bytes.items mid
-    (subst (λ (vs : List Value). IsWhole c.args.form (array (elements_from (map tree vs))) c.push_padding-in-Array.new.bytes.items c.write_elements.new.bytes.items)
+    let mid = padded c.args.payload c.len-in-Array.result b c.push_padding-in-Array.new.bytes.items (omega (arith, c.len-in-Array.ensures))
+    c.in_ok-push_padding-in-Array.ensures.ok in
+    subst (λ (u : Tree). IsWritten c.args.form u (length b - c.args.payload) b c.write_elements.new.bytes.items 5)
+    (sym (ap tree c.in-Array.is ∙ tree-array v))
+    (wrote_array c.args.form (elements_from (map tree v.items)) (length b - c.args.payload) b c.push_padding-in-Array.new.bytes.items
+    c.write_elements.new.bytes.items mid
+    (subst (λ (vs : List Value). IsWhole c.args.form (array (elements_from (map tree vs))) c.push_padding-in-Array.new.bytes.items
+    c.write_elements.new.bytes.items)
     c.as_slice.ensures.value c.in_ok-write_elements-in-Array.ensures.ok))
 
 pub write_value-returns-in_ok-write_members-in-Object-clause-ok : goal.write_value-returns-in_ok-write_members-in-Object-clause-ok
 write_value-returns-in_ok-write_members-in-Object-clause-ok t c =
     let b = c.args.bytes.now.items in
     let m = c.in-Object.members in
-    let mid = padded c.args.payload c.len-in-Object.result b c.push_padding-in-Object.new.bytes.items (omega (arith, c.len-in-Object.ensures)) c.in_ok-push_padding-in-Object.ensures.ok in
-    subst (λ (u : Tree). IsWritten c.args.form u (length b - c.args.payload) b c.write_members.new.bytes.items 5) (sym (ap tree c.in-Object.is ∙ tree-object m))
-    (wrote_object c.args.form (members_from (pairs m)) (length b - c.args.payload) b c.push_padding-in-Object.new.bytes.items c.write_members.new.bytes.items mid
+    let mid = padded c.args.payload c.len-in-Object.result b c.push_padding-in-Object.new.bytes.items
+    (omega (arith, c.len-in-Object.ensures)) c.in_ok-push_padding-in-Object.ensures.ok in
+    subst (λ (u : Tree). IsWritten c.args.form u (length b - c.args.payload) b c.write_members.new.bytes.items 5)
+    (sym (ap tree c.in-Object.is ∙ tree-object m))
+    (wrote_object c.args.form (members_from (pairs m)) (length b - c.args.payload) b c.push_padding-in-Object.new.bytes.items
+    c.write_members.new.bytes.items mid
     c.in_ok-write_members-in-Object.ensures.ok)

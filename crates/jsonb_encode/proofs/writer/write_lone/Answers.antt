@@ -21,10 +21,12 @@ returns-clause-ok c =
     let w = c.in_ok-kind.ensures.ok in
     let at = length mid - c.len-begin.result in
     let z : at ≡ 0 = omega (arith, c.len-begin.ensures) in
-    let told = c.close_item.ensures base mid (item c.args.form t at).piece Lone 1 [] (omega (arith, c.len-start.ensures)) refl c.in_ok-open_container.ensures.ok
+    let told = c.close_item.ensures base mid (item c.args.form t at).piece Lone 1 [] (omega (arith, c.len-start.ensures)) refl
+    c.in_ok-open_container.ensures.ok
     (omega (arith, c.len-begin.ensures)) w.bytes in
     MatchResult-weaker c.close_item.result told
-    (λ _ k. lone_is c.args.form t at (kind_number c.in_ok-kind.kind) base mid c.write_value.new.bytes.items c.close_item.new.bytes.items z w k) (λ _ _. tt)
+    (λ _ k. lone_is c.args.form t at (kind_number c.in_ok-kind.kind) base mid c.write_value.new.bytes.items c.close_item.new.bytes.items z
+    w k) (λ _ _. tt)
 
 pub returns-clause-err : goal.returns-clause-err
 returns-clause-err c =
@@ -34,7 +36,8 @@ returns-clause-err c =
     let w = c.in_ok-kind.ensures.ok in
     let at = length mid - c.len-begin.result in
     let z : at ≡ 0 = omega (arith, c.len-begin.ensures) in
-    let told = c.close_item.ensures base mid (item c.args.form t at).piece Lone 1 [] (omega (arith, c.len-start.ensures)) refl c.in_ok-open_container.ensures.ok
+    let told = c.close_item.ensures base mid (item c.args.form t at).piece Lone 1 [] (omega (arith, c.len-start.ensures)) refl
+    c.in_ok-open_container.ensures.ok
     (omega (arith, c.len-begin.ensures)) w.bytes in
     MatchResult-weaker c.close_item.result told (λ _ _. tt)
     (λ e k. inr (k.0, subst (λ (n : ℕ). 2 ^ 28 ≤ length (item c.args.form t n).piece) z (omega (arith, k.1))))

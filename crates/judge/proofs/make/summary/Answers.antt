@@ -10,5 +10,7 @@ returns c =
     let count = c.args.count in
     let valid = c.args.valid in
     IfOk-weaker c.format.result
-    (λ s. string_bytes s ≡ codes "pairs " ++ (decimal count ++ (codes " valid " ++ (decimal valid ++ (codes " invalid " ++ (decimal (count - valid) ++ codes "\n"))))))
-    (λ s. string_bytes s ≡ summary_text count valid) (λ s wrote. wrote ∙ joined (decimal count) (decimal valid) (decimal (count - valid))) c.format.ensures.ok
+    (λ s. string_bytes s ≡ codes "pairs " ++
+    (decimal count ++ (codes " valid " ++ (decimal valid ++ (codes " invalid " ++ (decimal (count - valid) ++ codes "\n"))))))
+    (λ s. string_bytes s ≡ summary_text count valid) (λ s wrote. wrote ∙ joined (decimal count) (decimal valid) (decimal (count - valid)))
+    c.format.ensures.ok

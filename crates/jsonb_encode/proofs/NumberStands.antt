@@ -52,9 +52,13 @@ tail_of (suc fuel) n le some = elim (cases_lt 0 (n % 10000)) [
   | inl lt ↦ (0, n, omega arith, lt)
   | inr none ↦
       let more = tail_of fuel (n / 10000) (omega arith) (omega arith) in
-      let whole : n ≡ n / 10000 * 10000 = omega arith in
-      (suc more.0, more.1, whole ∙ ap (λ (x : ℕ). x * 10000) more.2 ∙ turned more.1 (10000 ^ more.0) ∙ ap (λ (p : ℕ). more.1 * p)
-      (sym (pow-suc 10000 more.0)), more.3)
+      let whole : n ≡ n / 10000 * 10000 = omega arith in (
+        suc more.0,
+        more.1,
+        whole ∙ ap (λ (x : ℕ). x * 10000) more.2 ∙ turned more.1 (10000 ^ more.0) ∙ ap (λ (p : ℕ). more.1 * p)
+            (sym (pow-suc 10000 more.0)),
+        more.3,
+      )
 ]
   where
     turned : (y p : ℕ) → y * p * 10000 ≡ y * (p * 10000)
@@ -111,8 +115,11 @@ shape_of d some =
         more y p q ge lt = let h : p * q ≤ y * q = mul-le-mul_right q ge in omega arith
 
     over : (p y q : ℕ) → 0 < q → p * q ≤ y * q → p ≤ y
-    over p y q some le = elim (cases_lt y p) [ inr ge ↦ ge | inl lt ↦ absurd
-        (let h : y * q < p * q = mul-lt-mul_of_pos_right lt some in omega arith) ]
+    over p y q some le = elim (cases_lt y p) [
+      | inr ge ↦ ge
+      | inl lt ↦ absurd
+          (let h : y * q < p * q = mul-lt-mul_of_pos_right lt some in omega arith)
+    ]
 
     some_of : (y p n : ℕ) → n ≡ y * p → 0 < y % 10000 → p ≤ n
     some_of zero p n e h = absurd (omega arith)

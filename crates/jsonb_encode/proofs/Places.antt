@@ -112,7 +112,7 @@ spans first last n N F s g l = elim (counts first F) [
         above = λ i le. above i (pos i -ℤ pos F) a.0 a.1 le (omega (arith, ints));
         first = λ z. g.some (sym (digit first a.0 n N F s a.1) ∙ z);
         below = λ i lt. let p = pos i -ℤ pos F in let e : p +ℤ pos F ≡ pos i = omega (arith, ints) in digit p i n N F s e ∙ below p i last
-        b.0 b.1 e lt;
+            b.0 b.1 e lt;
         last = λ z. l.some (sym (digit last b.0 n N F s b.1) ∙ z);
       };
     }

@@ -98,9 +98,14 @@ mutual
   pub item_stands : (f : NumericForm) (t : Tree) (at : ℕ) → KeysRise t → HasExactNumbers t → IsTrue (all_fit f t) → AreSmall f t → IsItem t
       at (item f t at)
   item_stands f (scalar s) at rise exact fit small = scalar_stands f s at exact fit
-  item_stands f (array ts) at rise exact fit small =
-      (refl, (container Array (count_elements ts) (array_items f ts), refl,
-      (array_items f ts, array_laid f ts small, elements_stand f ts 0 rise exact fit small.1)))
+  item_stands f (array ts) at rise exact fit small = (
+    refl,
+    (
+      container Array (count_elements ts) (array_items f ts),
+      refl,
+      (array_items f ts, array_laid f ts small, elements_stand f ts 0 rise exact fit small.1),
+    ),
+  )
   item_stands f (object ms) at rise exact fit small = (
     refl,
     (

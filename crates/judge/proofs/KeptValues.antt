@@ -51,8 +51,13 @@ pub ends : (v : Tree) (values : List Value) (k : ℕ) → IsSome (as_array v) �
 ends v values k list le s =
     let all : take k (elements_of v) ≡ elements_of v = take_all k (elements_of v) le in
     let trees : map tree values ≡ elements_of v = s.trees ∙ all in (
-      record { form = list; pattern = λ h. h; literal = λ h. h; not_deep =
-      none_deep (elements_of v) (subst (λ (l : List Tree). AllByRecursion IsShallow l) all s.shallow) },
+      record {
+        form = list;
+        pattern = λ h. h;
+        literal = λ h. h;
+        not_deep =
+            none_deep (elements_of v) (subst (λ (l : List Tree). AllByRecursion IsShallow l) all s.shallow);
+      },
       λ d. (λ h. subst (IsOneOf d) trees h, λ h. subst (IsOneOf d) (sym trees) h),
     )
 

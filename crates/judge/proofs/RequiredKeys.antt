@@ -23,9 +23,10 @@ pub others_decide : {Z : Type 0} (n : ℕ) (names : List (String Z)) (ps : List 
     → HasKeys (drop n names) ps ↔ HasKeys names ps
 others_decide {Z = Z} n names ps first =
     let r = all_of_both (λ (name : String Z). IsSome (lookup (string_bytes name) ps)) (take n names) (drop n names) in
-    let whole = take-append-drop n names in
-    (λ h. subst (λ (l : List (String Z)). HasKeys l ps) whole (r.1 (first, h)),
-    λ h. (r.0 (subst (λ (l : List (String Z)). HasKeys l ps) (sym whole) h)).1)
+    let whole = take-append-drop n names in (
+      λ h. subst (λ (l : List (String Z)). HasKeys l ps) whole (r.1 (first, h)),
+      λ h. (r.0 (subst (λ (l : List (String Z)). HasKeys l ps) (sym whole) h)).1,
+    )
 
 -- in any order the same is asked
 pub in_any_order : {Z : Type 0} (names others : List (String Z)) (ps : List (List ℕ × Tree)) → IsPermutation names others

@@ -28,7 +28,7 @@ write_elements-returns-then-count-ge-LIMIT-clause-err t c =
 pub write_elements-loop-i-init : goal.write_elements-loop-i-init
 write_elements-loop-i-init t c = record {
   open_is = subst (λ xs. IsOpen Array (length c.args.elements.now) (length c.args.elements.now) xs c.args.bytes.now.items
-  c.open_container.new.bytes.items)
+      c.open_container.new.bytes.items)
       (sym (listed_none c.args.form [])) c.in_ok-open_container.ensures.ok;
   good = record { small = tt; rise = tt; exact = tt };
 }
@@ -158,7 +158,7 @@ write_members-loop-value-init t c =
         index = omega arith;
         inside = omega (arith, ap (λ (qs : Pairs). nest_members (members_from qs)) all);
         open_is = begin_values c.args.form ps c.len-count.result c.args.bytes.now.items c.write_keys.new.bytes.items c.len-count.ensures
-        c.in_ok-write_keys.ensures.ok;
+            c.in_ok-write_keys.ensures.ok;
         good = record { small = tt; rise = tt; exact = tt };
       },
     )

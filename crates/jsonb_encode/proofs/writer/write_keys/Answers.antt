@@ -49,7 +49,7 @@ loop-name-preserved c =
       inv.0 ++ p ∷ [],
       record {
         parts = pairs_next inv.0 (left c.loop-name.name-iterator) (left c.next.new.self) (pairs c.args.members.now) p inv.1.parts
-        c.in-Some.ensures.steps;
+            c.in-Some.ensures.steps;
         index = omega (arith, length-append inv.0 (p ∷ []), inv.1.index);
         open_is = key_last inv.0 p n (2 * n) c.args.bytes.now.items c.close_item.new.bytes.items piece c.as_bytes.ensures.value next;
       },

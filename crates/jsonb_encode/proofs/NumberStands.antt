@@ -52,8 +52,13 @@ tail_of (suc fuel) n le some = elim (cases_lt 0 (n % 10000)) [
   | inl lt ↦ (0, n, omega arith, lt)
   | inr none ↦
       let more = tail_of fuel (n / 10000) (omega arith) (omega arith) in
-      let whole : n ≡ n / 10000 * 10000 = omega arith in
-      (suc more.0, more.1, whole ∙ ap (λ (x : ℕ). x * 10000) more.2 ∙ turned more.1 (10000 ^ more.0) ∙ ap (λ (p : ℕ). more.1 * p) (sym (pow-suc 10000 more.0)), more.3)
+      let whole : n ≡ n / 10000 * 10000 = omega arith in (
+        suc more.0,
+        more.1,
+        whole ∙ ap (λ (x : ℕ). x * 10000) more.2 ∙ turned more.1 (10000 ^ more.0)
+            ∙ ap (λ (p : ℕ). more.1 * p) (sym (pow-suc 10000 more.0)),
+        more.3,
+      )
 ]
   where
     turned : (y p : ℕ) → y * p * 10000 ≡ y * (p * 10000)
@@ -85,9 +90,11 @@ shape_of d some =
     let m : a.0 ≡ (a.0 - z) + z = omega arith in
     let count : group_count d ≡ suc a.0 = count_is 10000 n a.0 (omega arith) a.1 a.2 in
     let below : y < 10000 ^ suc (a.0 - z) = under y (10000 ^ suc (a.0 - z)) (10000 ^ z)
-    (subst (λ (x : ℕ). x < 10000 ^ suc (a.0 - z) * 10000 ^ z) b.2 (subst (λ (x : ℕ). n < x) (ap (λ (e : ℕ). 10000 ^ e) k ∙ pow-add 10000 (suc (a.0 - z)) z) a.2)) in
+    (subst (λ (x : ℕ). x < 10000 ^ suc (a.0 - z) * 10000 ^ z) b.2
+    (subst (λ (x : ℕ). n < x) (ap (λ (e : ℕ). 10000 ^ e) k ∙ pow-add 10000 (suc (a.0 - z)) z) a.2)) in
     let first : 10000 ^ (a.0 - z) ≤ y = over (10000 ^ (a.0 - z)) y (10000 ^ z) (base_pos z)
-    (subst (λ (x : ℕ). 10000 ^ (a.0 - z) * 10000 ^ z ≤ x) b.2 (subst (λ (x : ℕ). x ≤ n) (ap (λ (e : ℕ). 10000 ^ e) m ∙ pow-add 10000 (a.0 - z) z) a.1)) in
+    (subst (λ (x : ℕ). 10000 ^ (a.0 - z) * 10000 ^ z ≤ x) b.2
+    (subst (λ (x : ℕ). x ≤ n) (ap (λ (e : ℕ). 10000 ^ e) m ∙ pow-add 10000 (a.0 - z) z) a.1)) in
     record {
       under = a.0 - z;
       zeros = z;
@@ -108,7 +115,11 @@ shape_of d some =
         more y p q ge lt = let h : p * q ≤ y * q = mul-le-mul_right q ge in omega arith
 
     over : (p y q : ℕ) → 0 < q → p * q ≤ y * q → p ≤ y
-    over p y q some le = elim (cases_lt y p) [ inr ge ↦ ge | inl lt ↦ absurd (let h : y * q < p * q = mul-lt-mul_of_pos_right lt some in omega arith) ]
+    over p y q some le = elim (cases_lt y p) [
+      | inr ge ↦ ge
+      | inl lt ↦ absurd
+          (let h : y * q < p * q = mul-lt-mul_of_pos_right lt some in omega arith)
+    ]
 
     some_of : (y p n : ℕ) → n ≡ y * p → 0 < y % 10000 → p ≤ n
     some_of zero p n e h = absurd (omega arith)
@@ -149,7 +160,8 @@ few_groups d h s = elim (cases_lt 10 s.under) [
 
 no_digits : (d : Decimal) → magnitude d ≡ 0 → d.digits ≡ pos 0
 no_digits d e =
-    let z : nat_abs d.digits ≡ 0 = none_of (nat_abs d.digits) (10 ^ (4 * fraction_groups d.places - d.places)) (ten_pos (4 * fraction_groups d.places - d.places)) e in
+    let z : nat_abs d.digits ≡ 0 = none_of (nat_abs d.digits) (10 ^ (4 * fraction_groups d.places - d.places))
+    (ten_pos (4 * fraction_groups d.places - d.places)) e in
     go d.digits z
   where
     go : (v : ℤ) → nat_abs v ≡ 0 → v ≡ pos 0
@@ -167,7 +179,8 @@ none_lift d e = ap (λ (b : Bool). cond b (2 ^ 15) ((2 ^ 15 + group_count d) - (
 
 -- the weight of another number
 pub some_lift : (d : Decimal) → 0 < magnitude d → lift d ≡ (2 ^ 15 + group_count d) - (1 + fraction_groups d.places)
-some_lift d h = ap (λ (b : Bool). cond b (2 ^ 15) ((2 ^ 15 + group_count d) - (1 + fraction_groups d.places))) (ne_eqb (magnitude d) 0 (λ z. absurd (omega arith)))
+some_lift d h = ap (λ (b : Bool). cond b (2 ^ 15) ((2 ^ 15 + group_count d) - (1 + fraction_groups d.places)))
+    (ne_eqb (magnitude d) 0 (λ z. absurd (omega arith)))
 
 pub groups_few : (d : Decimal) → IsNarrow d → length (groups d) ≤ 11
 groups_few d h = elim (cases_lt 0 (magnitude d)) [
@@ -237,7 +250,8 @@ value_of d h = elim (cases_lt 0 (magnitude d)) [
         places = refl;
         sign = sign_abs d.digits;
         size = ap (λ (k : ℕ). nat_abs d.digits * 10000 ^ (k + 2 ^ 15)) n
-            ∙ joined_value (nat_abs d.digits) f F s.digits s.zeros (suc s.under) (suc s.under + 2 ^ 15 - F) (lift d) (omega arith) s.size (omega arith) (omega arith)
+            ∙ joined_value (nat_abs d.digits) f F s.digits s.zeros (suc s.under) (suc s.under + 2 ^ 15 - F) (lift d) (omega arith) s.size
+            (omega arith) (omega arith)
             ∙ ap (λ (y : ℕ). 10 ^ f * (y * 10000 ^ (lift d + 1))) (sym (ap joined s.groups_are ∙ spread_joined (suc s.under) s.digits s.below));
         zero = λ z. absurd (omega arith);
       }
@@ -273,12 +287,14 @@ spread_are_groups m y lt first last =
     let gs = spread 10000 (suc m) y in
     let a = spread_below (suc m) y lt in
     let lead : 0 < y / 10000 ^ m = le-div 1 y (10000 ^ m) (base_pos m) (omega arith) in
-    let end : get_or gs (length gs - 1) 1 ≡ y % 10000 = ap (λ (hs : List ℕ). get_or hs (length hs - 1) 1) (spread_last m y lt) ∙ last_of (spread 10000 m (y / 10000)) (y % 10000) 1 in
+    let end : get_or gs (length gs - 1) 1 ≡ y % 10000 = ap (λ (hs : List ℕ). get_or hs (length hs - 1) 1) (spread_last m y lt)
+    ∙ last_of (spread 10000 m (y / 10000)) (y % 10000) 1 in
     rw (a, lt-ltb 0 (y / 10000 ^ m) lead, end, lt-ltb 0 (y % 10000) last) refl
 
 groups_fit : (d : Decimal) → IsTrue (are_groups (groups d))
 groups_fit d = elim (cases_lt 0 (magnitude d)) [
-  | inl some ↦ let s = shape_of d some in subst (λ (gs : List ℕ). IsTrue (are_groups gs)) (sym s.groups_are) (spread_are_groups s.under s.digits s.below s.first s.last)
+  | inl some ↦ let s = shape_of d some in subst (λ (gs : List ℕ). IsTrue (are_groups gs)) (sym s.groups_are)
+      (spread_are_groups s.under s.digits s.below s.first s.last)
   | inr none ↦ subst (λ (gs : List ℕ). IsTrue (are_groups gs)) (sym (none_groups d (let z : magnitude d ≡ 0 = omega arith in z))) refl
 ]
 
@@ -371,7 +387,8 @@ header_parts d h = (let le = h.1 in omega arith, lift_below d h)
 -- the size of a number that has the form of one size byte is below 128
 pub fits_byte : (form : NumericForm) (d : Decimal) → IsTrue (fits form d) → form ≡ ShortVarlena → length (body form d) < 127
 unfolding fits
-fits_byte ShortVarlena d h e = ltb-true (length (body ShortVarlena d)) 127 (and_parts (is_short (header d)) (ltb (length (body ShortVarlena d)) 127) h).1
+fits_byte ShortVarlena d h e = ltb-true (length (body ShortVarlena d)) 127
+    (and_parts (is_short (header d)) (ltb (length (body ShortVarlena d)) 127) h).1
 fits_byte Short d h e = absurd cc
 fits_byte Long d h e = absurd cc
 
@@ -417,7 +434,8 @@ number_stands form d h fit =
 
 -- behind its size byte a narrow number has few bytes
 pub narrow_byte : (d : Decimal) → IsNarrow d → ltb (length (body ShortVarlena d)) 127 ≡ true
-narrow_byte d narrow = lt-ltb (length (body ShortVarlena d)) 127 (omega (arith, groups_few d narrow, body_length ShortVarlena d, one_byte_head (header d)))
+narrow_byte d narrow = lt-ltb (length (body ShortVarlena d)) 127
+    (omega (arith, groups_few d narrow, body_length ShortVarlena d, one_byte_head (header d)))
 
 -- a narrow number has the form of one size byte where it has the short header
 pub narrow_fits : (d : Decimal) (b : Bool) → IsNarrow d → b ≡ is_short (header d) → b ≡ fits ShortVarlena d

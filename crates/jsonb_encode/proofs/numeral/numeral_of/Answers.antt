@@ -27,7 +27,8 @@ returns-then-count-fraction_groups c = λ size w e is range.
     let f = c.fraction_digits-places.result in
     let zt : ℕ = if p.exponent.down then 0 else size - cnt in
     let small : cnt < 2 ^ 63 = omega (arith, c.requires.few) in
-    let places = places_same p.exponent.down cnt size p.exponent.size f e small c.fraction_digits-places.ensures c.if-places-gt-MOST_FRACTION_DIGITS.false in
+    let places = places_same p.exponent.down cnt size p.exponent.size f e small c.fraction_digits-places.ensures
+    c.if-places-gt-MOST_FRACTION_DIGITS.false in
     let up = raised c.min-zeros.result c.zeros.result zt c.min-zeros.ensures
     (raised_same p.exponent.down cnt size p.exponent.size c.zeros.result e small c.zeros.ensures)
     (raised_many p.exponent.down cnt size p.exponent.size c.zeros.result e c.zeros.ensures) in
@@ -44,14 +45,16 @@ returns c = λ size w e is.
     let z = c.min-zeros.result in
     let zt : ℕ = if p.exponent.down then 0 else size - cnt in
     let small : cnt < 2 ^ 63 = omega (arith, c.requires.few) in
-    let places = places_same p.exponent.down cnt size p.exponent.size f e small c.fraction_digits-places.ensures c.if-places-gt-MOST_FRACTION_DIGITS.false in
+    let places = places_same p.exponent.down cnt size p.exponent.size f e small c.fraction_digits-places.ensures
+    c.if-places-gt-MOST_FRACTION_DIGITS.false in
     let up = raised z c.zeros.result zt c.min-zeros.ensures
     (raised_same p.exponent.down cnt size p.exponent.size c.zeros.result e small c.zeros.ensures)
     (raised_many p.exponent.down cnt size p.exponent.size c.zeros.result e c.zeros.ensures) in
     let same : w ≡ written p.negative n zt f = is ∙ ap (λ (k : ℕ). record { digits = signed p.negative (n * 10 ^ zt); places = k }) (sym places) in
     let m = c.count-count.result in
     let v = written p.negative n zt f in
-    let sized = few_groups p.negative n z zt f m c.if-places-gt-MOST_FRACTION_DIGITS.false up c.count-count.ensures.count c.if-count-fraction_groups.false in
+    let sized = few_groups p.negative n z zt f m c.if-places-gt-MOST_FRACTION_DIGITS.false up c.count-count.ensures.count
+    c.if-count-fraction_groups.false in
     let count = subst (λ (x : ℕ). IsCount m x) (sym sized.size) c.count-count.ensures.count in
     let few : z + filling f < 2 ^ 20 = omega (arith, c.min-zeros.ensures, c.if-places-gt-MOST_FRACTION_DIGITS.false) in
     kept_as _ v w same (

@@ -41,5 +41,6 @@ returns-clause-ok c =
     let n = c.args.numeral.now in
     ok_as c.push_groups.result _ ((w : Decimal) → IsKept n w → c.push_groups.new.bytes.items ≡ c.args.bytes.now.items ++ numeric c.args.form w)
     c.push_groups.ensures.ok
-    (λ e w kept. kept_written n c.args.form w c.groups.result c.args.bytes.now.items c.push_lead.new.bytes.items c.push_groups.new.bytes.items kept c.groups.ensures
+    (λ e w kept. kept_written n c.args.form w c.groups.result c.args.bytes.now.items c.push_lead.new.bytes.items
+    c.push_groups.new.bytes.items kept c.groups.ensures
     c.in_ok-push_lead.ensures.ok e)

@@ -16,7 +16,8 @@ returns-in-Containers c = checked_containers c.args.form c.args.self.now c.in-Co
 pub returns-in-KeyAndNumeral : goal.returns-in-KeyAndNumeral
 returns-in-KeyAndNumeral c =
     checked_as c.check_text-in-KeyAndNumeral.result c.args.form c.args.self.now _ c.in-KeyAndNumeral.is
-    (checked_member c.check_text-in-KeyAndNumeral.result c.args.form c.in-KeyAndNumeral.field-0 c.in-KeyAndNumeral.text c.check_text-in-KeyAndNumeral.ensures)
+    (checked_member c.check_text-in-KeyAndNumeral.result c.args.form c.in-KeyAndNumeral.field-0 c.in-KeyAndNumeral.text
+    c.check_text-in-KeyAndNumeral.ensures)
 
 pub returns-in-KeyAndNull : goal.returns-in-KeyAndNull
 returns-in-KeyAndNull c = checked_null c.args.form c.args.self.now c.in-KeyAndNull.field-0 c.in-KeyAndNull.is

@@ -1,5 +1,6 @@
--- When a tree has bytes in a form, and what is true of the tree of each value in memory, and of that of number literals. The limits of a container are the
--- layout's (PostgreSQL, `jsonb.h`: JB_CMASK, JENTRY_OFFLENMASK); those of numbers are this project's own.
+-- When a tree has bytes in a form, and what is true of the tree of each value in memory, and of that of number literals.
+-- The limits of a container are the layout's (PostgreSQL, `jsonb.h`: JB_CMASK, JENTRY_OFFLENMASK); those of numbers are this
+-- project's own.
 use Rattle.std.specs.Prelude.{ℕ, ◌^◌, ◌<◌, Bool, true, ◌&&◌, List, length}
 use Rattle.json_model.specs.Rising.{KeysRise}
 use Rattle.json_model.specs.Tree.{Scalar, null, boolean, number, string, Tree, scalar, array, object, Elements, no_elements, element, Members, no_members, member}

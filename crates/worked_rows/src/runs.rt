@@ -194,8 +194,18 @@ fn words_ask_for_a_command(rt: HostRuntime) -> Result<(), Fail> {
             "00000040\n01000050000000c0\n010000500100008061\nFloat\nNotJson\n",
         ),
         (["encode", "1"].as_slice(), VALID, Status::BadWords, ""),
-        (["make", "1"].as_slice(), VALID, Status::Done, "pairs 1 valid 1 invalid 0\n"),
-        (["make", "60"].as_slice(), VALID, Status::Done, "pairs 60 valid 51 invalid 9\n"),
+        (
+            ["make", "1"].as_slice(),
+            VALID,
+            Status::Done,
+            "pairs 1 valid 1 invalid 0\n",
+        ),
+        (
+            ["make", "60"].as_slice(),
+            VALID,
+            Status::Done,
+            "pairs 60 valid 51 invalid 9\n",
+        ),
         (
             ["make", "1000"].as_slice(),
             VALID,

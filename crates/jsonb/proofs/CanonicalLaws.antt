@@ -2,7 +2,8 @@
 use Rattle.std.proofs.Common.{◌≡◌, ℕ, zero, suc, ◌+◌, ◌-◌, ◌*◌, ◌<◌, ◌≤◌, ◌^◌, Bool, true, false, cond, eqb, List, [], ◌∷◌, ◌++◌, length, take, drop, Option, Some, None, refl, sym, ap, subst, ◌∙◌, arith}
 use Rattle.std.specs.Prelude.{IsTrue, ◌↔◌, ◌&&◌, ◌||◌, not, Result, Ok, Err, IfOk, option_to_list, MatchOption}
 use Rattle.std.specs.List.{AllByRecursion}
-use Rattle.std.proofs.lemmas.List.{length-append, length-drop, append-nil}
+use Rattle.std.proofs.lemmas.Bool.{eqb-true}
+use Rattle.std.proofs.lemmas.List.{length-drop, append-nil, take_at}
 use Rattle.json_exact.specs.declared.out_of_memory.OutOfMemory.{OutOfMemory}
 use Rattle.json_exact.specs.Parsed.{IsInRange}
 use Rattle.json_model.specs.Decimal.{Decimal}
@@ -21,7 +22,7 @@ use Rattle.jsonb_encode.specs.Encoded.{canonical}
 use Rattle.jsonb_encode.specs.Number.{numeric}
 use Rattle.jsonb_encode.specs.declared.number_form.NumericForm.TheVariants.{Short}
 use Rattle.jsonb_encode.proofs.Canonical.{item_stands}
-use Rattle.jsonb_encode.proofs.CanonicalSeats.{elements_are_all, values_are_all, number_bytes, number_is_canonical}
+use Rattle.jsonb_encode.proofs.CanonicalSeats.{container_seat, elements_are_all, values_are_all, number_bytes, number_is_canonical}
 use Rattle.jsonb.specs.Found.{both, keys_found, elements_found, members_found}
 use Rattle.jsonb.specs.Nodes.{node_tree}
 use Rattle.jsonb.specs.Seated.{node_seat, seats_left}
@@ -120,22 +121,19 @@ values_json c p q json e =
     subst (λ (r : Place). IsJsonTree (array_at c r)) here (subst IsJsonTree (sym is) values)
 
 module _ (begin s c : ℕ) (b : List ℕ) {p : Place} (fits : IsBytes b) (json : IsJsonTree (read b)) where
-  abbrev container : Seat
-  container = record { at = begin; kind = 5; bytes = b }
-
-  pub array_values : Some (Array, c, p) ≡ opened b → HasCanonicalBytes container ↔ AllHaveCanonicalBytes (seats_at s c p)
+  pub array_values : Some (Array, c, p) ≡ opened b → HasCanonicalBytes (container_seat begin b) ↔ AllHaveCanonicalBytes (seats_at s c p)
   array_values e = let a = array_read b json c p e in elements_are_all begin s c b p fits (sym e) a.0 a.1
 
   pub array_weight : Some (Array, c, p) ≡ opened b → seats_weight (seats_at s c p) + 1 ≤ length b
   array_weight e = omega (arith, weight_fits s c p, opened_size b (Array, c, p) (sym e))
 
   module _ (cs : List Seat) (e : Some (Object, c, p) ≡ opened b) (are : (q : Place) → Some q ≡ skip c p → cs ≡ seats_at s c q) where
-    pub object_values : HasCanonicalBytes container ↔ AllHaveCanonicalBytes cs
+    pub object_values : HasCanonicalBytes (container_seat begin b) ↔ AllHaveCanonicalBytes cs
     object_values =
         let o = holds c p (object_stands b json e) in
         let m = object_read b json c p e in
         let n = keys_names c None p (o.names, o.behind) o.keys_are in
-        subst (λ (l : List Seat). HasCanonicalBytes container ↔ AllHaveCanonicalBytes l) (sym (are o.behind (sym n.1)))
+        subst (λ (l : List Seat). HasCanonicalBytes (container_seat begin b) ↔ AllHaveCanonicalBytes l) (sym (are o.behind (sym n.1)))
         (values_are_all begin s c b fits (sym e) o.keys_are m.0 m.1)
 
     pub object_weight : seats_weight cs + 1 ≤ length b
@@ -147,6 +145,13 @@ module _ (begin s c : ℕ) (b : List ℕ) {p : Place} (fits : IsBytes b) (json :
         omega (arith, same, weight_fits s c o.behind, keys, opened_size b (Object, c, p) (sym e))
 
 -- ---- a number
+
+take_whole : (xs : List ℕ) (n : ℕ) → length xs ≡ n → take n xs ≡ xs
+take_whole xs n e = ap (take n) (sym (append-nil xs)) ∙ take_at xs [] n e
+
+-- what a slice has from a place on
+pub slice_rest : (xs all : List ℕ) (n : ℕ) → xs ≡ all → take (length xs - n) (drop n xs) ≡ drop n all
+slice_rest xs all n e = take_whole (drop n xs) (length xs - n) (length-drop n xs) ∙ ap (drop n) e
 
 -- the bytes that are written of a number tell whether it is canonical
 pub number_told : (b all : List ℕ) (d : Decimal) → IsInRange d → IsJsonTree (value_of kinds.Number b)
@@ -180,25 +185,25 @@ looked_string n old e =
 -- a number is what it is told to be
 pub looked_number : (n : JsonbNode) (old : List Cursor) (r : Result Bool OutOfMemory) → n.kind ≡ kinds.Number
     → IfOk r (λ yes. IsTrue yes ↔ HasCanonicalBytes (record { at = 0; kind = 1; bytes = n.bytes.now })) → IfOk r (Looked (node_seat n) old old)
-looked_number n old (Ok yes) e h =
-    looked_same (node_seat n) old yes (subst (λ (k : Kind). IsTrue yes ↔ HasCanonicalBytes (kind_seat n.offset k n.bytes.now)) (sym e) h)
+looked_number n old (Ok can) e h =
+    looked_same (node_seat n) old can (subst (λ (k : Kind). IsTrue can ↔ HasCanonicalBytes (kind_seat n.offset k n.bytes.now)) (sym e) h)
 looked_number n old (Err x) e h = tt
 
 -- a truth value or null is canonical without bytes
-pub looked_empty : (n : JsonbNode) (old : List Cursor) (yes : Bool) (k : Kind) (t : Scalar) → n.kind ≡ k → 2 ≤ kind_number k → kind_number k ≤ 4
-    → SeatIsCanonical (kind_seat 0 k []) (scalar t) → yes ≡ eqb (length n.bytes.now) 0 → Looked (node_seat n) old old yes
-looked_empty n old yes k t e lo hi can is =
+pub looked_empty : (n : JsonbNode) (old : List Cursor) (none : Bool) (k : Kind) (t : Scalar) → n.kind ≡ k → 2 ≤ kind_number k → kind_number k ≤ 4
+    → SeatIsCanonical (kind_seat 0 k []) (scalar t) → none ≡ eqb (length n.bytes.now) 0 → Looked (node_seat n) old old none
+looked_empty n old none k t e lo hi can is =
     let at : HasCanonicalBytes (node_seat n) → n.bytes.now ≡ [] =
     λ h. empty_of h.0 (kind_seat 0 k n.bytes.now) (subst (λ (j : Kind). SeatIsCanonical (kind_seat 0 j n.bytes.now) h.0) e h.1) lo hi in
-    looked_same (node_seat n) old yes (
+    looked_same (node_seat n) old none (
       λ h. subst (λ (j : Kind). HasCanonicalBytes (kind_seat n.offset j n.bytes.now)) (sym e)
-          (subst (λ (b : List ℕ). HasCanonicalBytes (kind_seat 0 k b)) (sym (none_of n.bytes.now (sym is ∙ h))) (scalar t, can)),
+          (subst (λ (b : List ℕ). HasCanonicalBytes (kind_seat 0 k b)) (sym (no_bytes n.bytes.now (sym is ∙ h))) (scalar t, can)),
       λ h. is ∙ ap (λ (b : List ℕ). eqb (length b) 0) (at h),
     )
   where
-    none_of : (b : List ℕ) → eqb (length b) 0 ≡ true → b ≡ []
-    none_of [] e = refl
-    none_of (x ∷ b) e = absurd cc
+    no_bytes : (b : List ℕ) → eqb (length b) 0 ≡ true → b ≡ []
+    no_bytes [] e = refl
+    no_bytes (x ∷ b) e = absurd (let z : suc (length b) ≡ 0 = eqb-true (suc (length b)) 0 e in omega arith)
 
 -- the values of a container are put off
 pub looked_inside : (n : JsonbNode) (old new : List Cursor) (c : Cursor) → n.kind ≡ kinds.Container → new ≡ old ++ c ∷ []
@@ -234,7 +239,7 @@ advanced c rest s old mid new false e put h = λ k. h (subst AllHaveCanonicalByt
 -- the same of an answer that may want memory
 pub advanced_by : (c rest : Cursor) (s : Seat) (old mid new : List Cursor) (r : Result Bool OutOfMemory) → seats_left c ≡ s ∷ seats_left rest
     → mid ≡ old ++ rest ∷ [] → IfOk r (Looked s mid new) → IfOk r (Advanced c old new)
-advanced_by c rest s old mid new (Ok yes) e put h = advanced c rest s old mid new yes e put h
+advanced_by c rest s old mid new (Ok can) e put h = advanced c rest s old mid new can e put h
 advanced_by c rest s old mid new (Err x) e put h = tt
 
 -- ---- all values
@@ -255,6 +260,7 @@ module _ (n : JsonbNode) (all old : List Cursor) (c : Cursor) (split : all ≡ o
     λ k. let both = h.0.1 k in left.1 (subst AreLeftCanonical (sym split) (all_more old c both.1 both.0)),
   )
 
+  -- each step leaves less
   pub goes_down : (new : List Cursor) → Advanced c old new true → pending_weight new < pending_weight all
   goes_down new h = omega (arith, h.1, weight_more old c, ap pending_weight split)
 
@@ -262,6 +268,21 @@ module _ (n : JsonbNode) (all old : List Cursor) (c : Cursor) (split : all ≡ o
   pub stops : (new : List Cursor) → Advanced c old new false → SeatIsCanonical (node_seat n) (node_tree n) → ⊥
   stops new h k = h (all_less old c (subst AreLeftCanonical split (left.0 ((node_canonical n).1 k)))).1
 
+module _ (n : JsonbNode) (all old : List Cursor) (c : Cursor) (split : all ≡ old ++ c ∷ []) (left : IsLeft n all) (new : List Cursor) (can : Bool) where
+  -- the same, by the answer
+  pub goes_on_by : can ≡ true → Advanced c old new can → IsLeft n new
+  goes_on_by e h = goes_on n all old c split left new (subst (Advanced c old new) e h)
+
+  pub goes_down_by : can ≡ true → Advanced c old new can → pending_weight new < pending_weight all
+  goes_down_by e h = goes_down n all old c split left new (subst (Advanced c old new) e h)
+
+  pub stops_by : can ≡ false → Advanced c old new can → SeatIsCanonical (node_seat n) (node_tree n) → ⊥
+  stops_by e h = stops n all old c split left new (subst (Advanced c old new) e h)
+
 -- where nothing is left
 pub ends : (n : JsonbNode) (cs : List Cursor) → cs ≡ [] → IsLeft n cs → SeatIsCanonical (node_seat n) (node_tree n)
 ends n cs e left = (node_canonical n).0 (left.1 (subst AreLeftCanonical (sym e) tt))
+
+-- where nothing was taken off, nothing is left
+pub none_left : (cs rest : List Cursor) (len : ℕ) → cs ≡ rest ++ [] → rest ≡ take (len - 1) cs → len ≡ 0 → cs ≡ []
+none_left cs rest len e r z = e ∙ append-nil rest ∙ r ∙ ap (λ (k : ℕ). take (k - 1) cs) z

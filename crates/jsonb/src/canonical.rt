@@ -22,7 +22,7 @@ use crate::number::JsonbNumber;
 use crate::walk::pass;
 use json_exact::{OutOfMemory, Value, laws};
 use json_traits::JsonNumber;
-use jsonb_encode::{EncodeError, encode};
+use jsonb_encode::encode;
 use jsonb_layout::Form;
 use std::alloc::Global;
 
@@ -39,8 +39,8 @@ fn stands_short(alloc: Global, number: JsonbNumber<'_>) -> Result<bool, OutOfMem
     laws::decimals_are_within_limits(&decimal);
     match encode(alloc, &Value::Number(exact)) {
         Ok(written) => Ok(&written[NUMBER_BEGIN..] == number.bytes),
-        Err(EncodeError::OutOfMemory) => Err(OutOfMemory),
-        Err(_) => unreachable!(),
+        // A number is within the limits, so that memory alone can be wanted.
+        Err(_) => Err(OutOfMemory),
     }
 }
 
@@ -74,8 +74,8 @@ fn values_in(begin: usize, bytes: &[u8]) -> Cursor<'_>
         unreachable!()
     };
     match form {
-        Form::Array => Cursor { left: items },
-        Form::Object => values_behind(items),
+        Form::Array => return Cursor { left: items },
+        Form::Object => return values_behind(items),
         Form::Lone => unreachable!(),
     }
 }
@@ -98,10 +98,13 @@ fn look<'a>(
 ) -> Result<bool, OutOfMemory>
     ensures { IfOk result (Looked (node_seat node.entry) pending.old.items pending.new.items) }
 {
+    let empty = node.bytes.is_empty();
     match node.kind {
         Kind::String => Ok(true),
         Kind::Number => stands_short(alloc, JsonbNumber { bytes: node.bytes }),
-        Kind::False | Kind::True | Kind::Null => Ok(node.bytes.is_empty()),
+        Kind::False => Ok(empty),
+        Kind::True => Ok(empty),
+        Kind::Null => Ok(empty),
         Kind::Container => {
             put_off(pending, values_in(node.offset, node.bytes))?;
             Ok(true)

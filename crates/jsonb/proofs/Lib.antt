@@ -25,3 +25,5 @@ pub mod SeatTrees
 pub mod SeatHolds
 pub mod PlaceLaws
 pub mod ElementLaws
+pub mod CanonicalLaws
+pub mod CanonicalRoots

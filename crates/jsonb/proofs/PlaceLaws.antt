@@ -83,7 +83,7 @@ module _ (k : Kind) (b : List ℕ) where
   by_kind : (j : Kind) (u : Tree) → kind_number k ≡ kind_number j → value_of j b ≡ Some u → value_of k b ≡ Some u
   by_kind j u e f = subst (λ (i : Kind). value_of i b ≡ Some u) (sym (kind_one k j e)) f
 
-  stands_value : (u : Tree) → IsItem u 0 (record { kind = kind_number k; piece = b }) → value_of k b ≡ Some u
+  pub stands_value : (u : Tree) → IsItem u 0 (record { kind = kind_number k; piece = b }) → value_of k b ≡ Some u
   stands_value (scalar null) h = by_kind kinds.Null (scalar null) h.0 refl
   stands_value (scalar (boolean true)) h = by_kind kinds.True (scalar (boolean true)) h.0 refl
   stands_value (scalar (boolean false)) h = by_kind kinds.False (scalar (boolean false)) h.0 refl

@@ -6,3 +6,4 @@ pub mod Keys
 pub mod Groups
 pub mod Frames
 pub mod Reads
+pub mod Canonical

@@ -4,7 +4,9 @@ ghost use Rattle.std.specs.Int.{w32, from_le_bytes};
 ghost use Rattle.std.specs.Prelude.{◌≡◌, ◌≤◌, ◌+◌, ◌/◌, ◌%◌, ◌^◌, ◌++◌, [], ◌∷◌, ℕ, List, Some, length, take, drop, IsTrue, ◌↔◌};
 ghost use Rattle.json_model.specs.Rising.{KeysRise};
 ghost use Rattle.json_model.specs.Tree.{Tree};
-ghost use Rattle.jsonb_layout.specs.Seats.{Seat, Holds, IsSeat, SeatStands, pair_of, tree_at};
+ghost use Rattle.jsonb_encode.specs.Canonical.{IsCanonical, SeatIsCanonical};
+ghost use Rattle.jsonb_encode.specs.Encoded.{canonical};
+ghost use Rattle.jsonb_layout.specs.Seats.{Seat, Holds, IsRoot, IsSeat, SeatStands, pair_of, tree_at};
 ghost use Rattle.jsonb_layout.specs.Stands.{Stands};
 ghost use Rattle.jsonb.specs.Nodes.{node_tree};
 ghost use Rattle.jsonb.specs.Seated.{node_identity, node_seat};
@@ -82,6 +84,23 @@ pub fn a_node_has_the_tree_of_its_place(root: &[u8], node: &JsonbNode<'_>)
     let _length = root.len();
     let _identity = node.identity();
 }
+
+/// A node that is the root of a slice is canonical for its tree exactly where the slice is, which then is the canonical bytes of
+/// its tree. `root` gives such a node, and `is_canonical` tells whether it is.
+pub fn a_canonical_root_is_a_canonical_slice(root: &[u8], node: &JsonbNode<'_>)
+    ensures slice { (t : Tree) → Stands root.now t → IsRoot root.now (node_seat node.now)
+        → (SeatIsCanonical (node_seat node.now) (node_tree node.now) ↔ IsCanonical root.now t) }
+    ensures bytes { (t : Tree) → Stands root.now t → IsRoot root.now (node_seat node.now)
+        → SeatIsCanonical (node_seat node.now) (node_tree node.now) → root.now ≡ canonical t }
+{
+    let _length = root.len();
+    let _identity = node.identity();
+}
+
+/// Canonical slices are equal exactly where their trees are, written fraction digits included.
+pub fn canonical_slices_are_equal_by_their_trees()
+    ensures { (t u : Tree) (a b : List ℕ) → IsCanonical a t → IsCanonical b u → ((a ≡ b) ↔ (t ≡ u)) }
+{}
 
 /// Whether two nodes of one root are the same place of its tree, which is told by their identities: these are the same
 /// exactly where the places are.

@@ -31,11 +31,13 @@
 //! A node's identity is where it lies, with its kind and length: two nodes of one root have the same one exactly where they are
 //! the same place of its tree, however equal their values are.
 //!
-//! [`encode`] makes bytes, and reads the bytes of hex text. [`laws`] says what holds of the grammar and of places for all bytes.
+//! [`encode`] makes bytes, tells whether a value stands in its canonical bytes, and reads the bytes of hex text. [`laws`] says what
+//! holds of the grammar and of places for all bytes.
 #![tactic(auto)]
 
 mod array;
 mod buffer;
+mod canonical;
 mod cursor;
 mod element;
 pub mod encode;

@@ -1,7 +1,7 @@
 -- Each pair of slices has at most one right answer.
 use Rattle.std.proofs.Common.{◌≡◌, inl, inr, ℕ, zero, suc, ◌+◌, List, [], ◌∷◌, take, Bool, true, false, Option, Some, None, refl, sym, ap, subst, ◌∙◌, arith}
-use Rattle.std.specs.Prelude.{Result, Ok, Err, ◌↔◌, IsTrue, IsSome, IsSomeAnd, bytes_eq, slice_get, unwrap_or}
-use Rattle.std.specs.List.{AllByRecursion, list_any}
+use Rattle.std.specs.Prelude.{Result, Ok, Err, ◌↔◌, IsTrue, IsSome, IsSomeAnd, slice_get, unwrap_or}
+use Rattle.std.specs.List.{AllByRecursion}
 use Rattle.json_model.specs.Tree.{Tree}
 use Rattle.json_model.specs.Parts.{as_object, pairs_of}
 use Rattle.jsonb.specs.declared.error.JsonbError.{JsonbError}
@@ -14,7 +14,7 @@ use Rattle.judge.specs.declared.errors.KeywordError.TheVariants as keyword
 use Rattle.judge.specs.declared.keyword.Keyword.{Keyword}
 use Rattle.judge.specs.Right.{Answer, RightOf, RightWith, RightFrom, Right, RightOnTrees}
 use Rattle.judge.proofs.PatternFaults.{decided_engine, decided_no_pattern, deep_alone, deep_no_engine, needs_engine_form, no_pattern_form, one_of_both}
-use Rattle.judge.proofs.Decided.{Decided, decided_true}
+use Rattle.judge.proofs.Decided.{Decided}
 use Rattle.judge.proofs.SomeFault.{decided_deep, decided_form}
 
 abbrev Pair : Type 0

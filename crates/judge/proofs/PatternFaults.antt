@@ -1,5 +1,5 @@
 -- The faults of patterns stand alone: a value that has one has the form of its keyword, and no other fault.
-use Rattle.std.proofs.Common.{◌≡◌, inl, inr, List, ℕ, Option, Some, None, refl}
+use Rattle.std.proofs.Common.{inr, List, ℕ, Option, Some, None, refl}
 use Rattle.std.specs.Prelude.{IsSome, IsSomeAnd}
 use Rattle.json_model.specs.Parts.{as_string, points}
 use Rattle.json_model.specs.Tree.{Tree}

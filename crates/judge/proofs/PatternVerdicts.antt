@@ -1,5 +1,5 @@
 -- A literal pattern finds a string exactly where its analysis hits it; so what it asks is decided.
-use Rattle.std.proofs.Common.{◌≡◌, ◌⊎◌, inl, inr, List, ℕ, Option, Some, None, refl}
+use Rattle.std.proofs.Common.{inl, inr, List, ℕ, Option, Some, None, refl}
 use Rattle.std.specs.Prelude.{◌↔◌, IfSome, IsSome, IsSomeAnd}
 use Rattle.json_model.specs.Parts.{as_string, points}
 use Rattle.json_model.specs.Tree.{Tree}
@@ -12,7 +12,7 @@ use Rattle.pattern_model.specs.Literals.{Analysis, IsAnalysis, Hits}
 use Rattle.pattern_model.proofs.LiteralMatches.{literal_matches}
 use Rattle.judge.specs.Patterns.{Finds, IsLiteral, IsPattern}
 use Rattle.judge.specs.Validity.{Suits}
-use Rattle.judge.specs.inner.Passes.{IsHit, IsPatternOf}
+use Rattle.judge.specs.inner.Passes.{IsPatternOf}
 use Rattle.judge.specs.declared.keyword.Keyword.TheVariants.{Pattern}
 use Rattle.judge.proofs.Decided.{Decided, decided_if}
 

@@ -1,7 +1,7 @@
 -- Each keyword tree has its first fault, or none: the form of each member is decided.
 use Rattle.std.proofs.Common.{◌≡◌, ◌⊎◌, inl, inr, ℕ, zero, suc, List, [], ◌∷◌, take, Option, Some, None, refl, pos}
-use Rattle.std.specs.Prelude.{IsSome, IsSomeAnd, bytes_eq, slice_get}
-use Rattle.std.specs.List.{AllByRecursion, list_any}
+use Rattle.std.specs.Prelude.{IsSome, IsSomeAnd, slice_get}
+use Rattle.std.specs.List.{AllByRecursion}
 use Rattle.json_model.specs.Decimal.{Decimal}
 use Rattle.json_model.specs.Parts.{as_array, as_boolean, as_number, as_object, as_string, elements_of, pairs_of}
 use Rattle.json_model.specs.Nest.{nest}
@@ -16,7 +16,7 @@ use Rattle.judge.specs.declared.errors.KeywordError.TheVariants as keyword
 use Rattle.judge.specs.declared.keyword.Keyword.{Keyword}
 use Rattle.judge.specs.declared.keyword.Keyword.TheVariants.{«Type», Enum, Const, Bound, Least, Greatest, Pattern, Required, UniqueItems}
 use Rattle.judge.proofs.PatternFaults.{decided_engine, decided_no_pattern}
-use Rattle.judge.proofs.Decided.{Decided, decided_less, decided_all, decided_and, decided_below, decided_both, decided_either, decided_filled, decided_not, decided_some, decided_true, decided_type, decided_whole, same_texts}
+use Rattle.judge.proofs.Decided.{Decided, decided_less, decided_all, decided_and, decided_below, decided_both, decided_either, decided_filled, decided_not, decided_some, decided_type, decided_whole, same_texts}
 
 -- ---- the forms
 

@@ -1,8 +1,8 @@
 -- Which keyword objects are valid, and the first fault of one that is not: the forms of the JSON Schema 2020-12
 -- meta-schema. The order of the causes is this project's own, and so is that an unknown name, and a truth value in place of
 -- a keyword object, are refused.
-use Rattle.std.specs.Prelude.{ℕ, pos, ◌≡◌, ◌⊎◌, ◌<◌, List, [], ◌∷◌, Option, Some, None, true, ⊤, length, IsTrue, IsSome, IsSomeAnd, bytes_eq, slice_get, take}
-use Rattle.std.specs.List.{AllByRecursion, list_any}
+use Rattle.std.specs.Prelude.{ℕ, pos, ◌≡◌, ◌⊎◌, ◌<◌, List, [], ◌∷◌, Option, Some, None, true, ⊤, length, IsSome, IsSomeAnd, slice_get, take}
+use Rattle.std.specs.List.{AllByRecursion}
 use Rattle.json_model.specs.Decimal.{Decimal, IsBelow, IsWhole}
 use Rattle.json_model.specs.Parts.{as_array, as_boolean, as_object, as_number, as_string, elements_of, pairs_of}
 use Rattle.json_model.specs.Nest.{nest}

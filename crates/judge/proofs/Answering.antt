@@ -28,10 +28,11 @@ Answers k d r = (r ≡ Err judged.OutOfMemory) ⊎ Right k d r
 abbrev Said : {X : Type 0} → List ℕ → Result X JsonbError → Result Tree JsonbError → Type 0
 Said b r s = (r ≡ Err read.OutOfMemory) ⊎ IsRead b s
 
-err_is : {A E : Type 0} (x y : E) → ◌≡◌ {A = Result A E} (Err x) (Err y) → x ≡ y
+-- Two errors are equal where their results are.
+pub err_is : {A E : Type 0} (x y : E) → ◌≡◌ {A = Result A E} (Err x) (Err y) → x ≡ y
 err_is x y e = cc
 
-abbrev err : JudgeError → Answer
+abbrev pub err : JudgeError → Answer
 err x = Err x
 
 module _ {X : Type 0} (k d : List ℕ) where

@@ -14,7 +14,7 @@ use Rattle.judge.specs.declared.errors.KeywordError.TheVariants as keyword
 use Rattle.judge.specs.declared.keyword.Keyword.{Keyword}
 use Rattle.judge.specs.Right.{Answer, RightOf, RightWith, RightFrom, Right, RightOnTrees}
 use Rattle.judge.proofs.PatternFaults.{decided_engine, decided_no_pattern, deep_alone, deep_no_engine, needs_engine_form, no_pattern_form, one_of_both}
-use Rattle.judge.proofs.Decided.{Decided}
+use Rattle.jsonschema_regex.proofs.DecidedPatterns.{Decided}
 use Rattle.judge.proofs.SomeFault.{decided_deep, decided_form}
 
 abbrev Pair : Type 0

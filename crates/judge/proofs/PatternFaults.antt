@@ -3,12 +3,12 @@ use Rattle.std.proofs.Common.{inr, List, ℕ, Option, Some, None, refl}
 use Rattle.std.specs.Prelude.{IsSome, IsSomeAnd}
 use Rattle.json_model.specs.Parts.{as_string, points}
 use Rattle.json_model.specs.Tree.{Tree}
-use Rattle.jsonschema_regex.proofs.DecidedPatterns.{decided_analysis, decided_grammar}
+use Rattle.jsonschema_regex.proofs.DecidedPatterns.{decided_analysis, decided_grammar, Decided}
 use Rattle.judge.specs.Patterns.{IsLiteral, IsPattern}
 use Rattle.judge.specs.Validity.{HasForm, IsNoPattern, KeepsDeep, NeedsEngine}
 use Rattle.judge.specs.declared.keyword.Keyword.{Keyword}
 use Rattle.judge.specs.declared.keyword.Keyword.TheVariants.{Pattern}
-use Rattle.judge.proofs.Decided.{Decided, decided_and, decided_both, decided_not}
+use Rattle.judge.proofs.Decided.{decided_and, decided_both, decided_not}
 
 text_there : {A : Type 0} (o : Option A) (P : A → Type 0) → IsSomeAnd o P → IsSome o
 text_there None P h = absurd h

@@ -6,7 +6,7 @@ use Rattle.json_model.specs.Tree.{Tree}
 use Rattle.jsonschema_regex.specs.Analyses.{kept_of}
 use Rattle.jsonschema_regex.specs.declared.literal_pattern.LiteralPattern.{LiteralPattern}
 use Rattle.jsonschema_regex.proofs.DecidedHits.{decided_hits}
-use Rattle.jsonschema_regex.proofs.DecidedPatterns.{decided_analysis, decided_grammar}
+use Rattle.jsonschema_regex.proofs.DecidedPatterns.{decided_analysis, decided_grammar, Decided}
 use Rattle.jsonschema_regex.proofs.MatchLaws.{keeps_matches}
 use Rattle.pattern_model.specs.Literals.{Analysis, IsAnalysis, Hits}
 use Rattle.pattern_model.proofs.LiteralMatches.{literal_matches}
@@ -14,7 +14,7 @@ use Rattle.judge.specs.Patterns.{Finds, IsLiteral, IsPattern}
 use Rattle.judge.specs.Validity.{Suits}
 use Rattle.judge.specs.inner.Passes.{IsPatternOf}
 use Rattle.judge.specs.declared.keyword.Keyword.TheVariants.{Pattern}
-use Rattle.judge.proofs.Decided.{Decided, decided_if}
+use Rattle.judge.proofs.Decided.{decided_if}
 
 abbrev String : Type 0
 String = List ℕ

@@ -16,7 +16,8 @@ use Rattle.judge.specs.declared.errors.KeywordError.TheVariants as keyword
 use Rattle.judge.specs.declared.keyword.Keyword.{Keyword}
 use Rattle.judge.specs.declared.keyword.Keyword.TheVariants.{«Type», Enum, Const, Bound, Least, Greatest, Pattern, Required, UniqueItems}
 use Rattle.judge.proofs.PatternFaults.{decided_engine, decided_no_pattern}
-use Rattle.judge.proofs.Decided.{Decided, decided_less, decided_all, decided_and, decided_below, decided_both, decided_either, decided_filled, decided_not, decided_some, decided_type, decided_whole, same_texts}
+use Rattle.jsonschema_regex.proofs.DecidedPatterns.{Decided}
+use Rattle.judge.proofs.Decided.{decided_less, decided_all, decided_and, decided_below, decided_both, decided_either, decided_filled, decided_not, decided_some, decided_type, decided_whole, same_texts}
 
 -- ---- the forms
 

@@ -7,6 +7,7 @@ use Rattle.jsonb.specs.Root.{IsRead, read_tree}
 use Rattle.jsonb.specs.declared.error.JsonbError.{JsonbError}
 use Rattle.jsonb.specs.declared.error.JsonbError.TheVariants as read
 use Rattle.jsonb.specs.declared.node.JsonbNode.{JsonbNode}
+use Rattle.judge.proofs.Answering.{err_is, err}
 use Rattle.judge.specs.Compiled.{IsCompiled, HasThisFault}
 use Rattle.judge.specs.inner.Passes.{Passes}
 use Rattle.judge.specs.Right.{Answer, Right, keywords_error, document_error, keyword_error}
@@ -28,16 +29,10 @@ Answers c d r = (r ≡ Err judged.OutOfMemory) ⊎ ((k : List ℕ) → (t : Tree
 abbrev Said : List ℕ → Result JsonbNode JsonbError → Type 0
 Said b r = (r ≡ Err read.OutOfMemory) ⊎ IsRead b (read_tree r)
 
-err_is : {A E : Type 0} (x y : E) → ◌≡◌ {A = Result A E} (Err x) (Err y) → x ≡ y
-err_is x y e = cc
-
 -- an Ok is no Err
 pub sure : {X E : Type 0} (x : X) (e : E) (P : Type 0) → (◌≡◌ {A = Result X E} (Ok x) (Err e)) ⊎ P → P
 sure x e P (inl h) = absurd cc
 sure x e P (inr h) = h
-
-abbrev err : JudgeError → Answer
-err x = Err x
 
 abbrev node_err : JsonbError → Result JsonbNode JsonbError
 node_err x = Err x

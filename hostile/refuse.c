@@ -8,7 +8,7 @@
 #include <stdlib.h>
 #include <string.h>
 
-enum answer { NO, YES, OUT_OF_MEMORY };
+enum answer { NO, YES, OUT_OF_MEMORY, ANOTHER, TOO_DEEP };
 
 typedef uint32_t (*call)(const uint8_t *one, size_t one_length, const uint8_t *other, size_t other_length);
 
@@ -108,7 +108,7 @@ static void put_numbers(struct bytes *bytes, bool again)
 	for (uint32_t i = 0; i < count; i++) {
 		uint32_t length = i == 0 || i == 20 ? 6 : 8;
 
-		/* a number is padded to the next place that four divides: so is the last, behind 0 and 19 others */
+		/* number 1 has two bytes of padding, behind the six of number 0: all others begin where four divides */
 		put_word(bytes, i == 0 ? 0x90000006 : 0x10000000 | (length + (i == 1 ? 2 : 0)));
 	}
 	for (uint32_t i = 0; i < count; i++) {
@@ -141,10 +141,12 @@ struct row {
 	const char *name;
 	call call;
 	enum answer answer;
+	/* whether no late request changes the answer: those numbers are refused that a tree of the document would come to */
+	bool needs_no_tree;
 	struct bytes one, other;
 };
 
-enum { ROWS = 21 };
+enum { ROWS = 24 };
 
 static struct row rows[ROWS];
 static int count;
@@ -168,7 +170,7 @@ static void row_of_pattern(call call, enum answer answer, const char *text)
 	put_text(&row(text, call, answer)->one, text);
 }
 
-/* {"const":..}, the value so many containers around an empty one, whose bytes are so many */
+/* {"const":..}, the value so many containers around an empty one */
 static void row_of_constant(const char *name, enum answer answer, const char *keywords, int depth)
 {
 	struct row *it = row(name, is_valid, answer);
@@ -192,10 +194,12 @@ static void make_rows(void)
 	row_of_hex("a required name that is there", is_valid, YES, required, has_a);
 	row_of_hex("a required name that is not", is_valid, NO, required, "00000020");
 	row_of_constant("a constant of 128 containers", NO, "01000020 05000080 ff030050 636f6e7374000000", 127);
+	row_of_constant("a constant of 129 containers", TOO_DEEP, "01000020 05000080 07040050 636f6e7374000000", 128);
 	row_of_hex("a text that has the prefix", is_valid, YES, text, "01000050 03000080 782d61");
 	row_of_hex("a text that has not", is_valid, NO, text, "01000050 01000080 79");
 	put_hex(&(it = row("499 strings behind a container", is_valid, YES))->one, "00000020");
 	put_strings(&it->other);
+	it->needs_no_tree = true;
 	for (int in_memory = 0; in_memory < 2; in_memory++) {
 		call unique = in_memory ? is_unique_in_memory : is_unique;
 
@@ -206,6 +210,7 @@ static void make_rows(void)
 	}
 	row_of_hex("a value of a slice", is_encoded_again, YES, "", has_a);
 	put_nested(&row("a value of 100 containers", is_encoded_again, YES)->other, 99);
+	put_nested(&row("a value of 129 containers", is_encoded_again, TOO_DEEP)->other, 128);
 	put_text(&(it = row("a value of a text", is_written, YES))->one, "{\"a\": 1}");
 	put_hex(&it->other, has_a);
 	row_of_pattern(is_pattern, YES, "^(?<n>a|b)[c-f]+\\k<n>$");
@@ -218,30 +223,39 @@ static void make_rows(void)
 /* The answer, while one growth is refused; none is where its number is 0. */
 static uint32_t answer_with(const struct row *row, long refuse)
 {
-	growths = 0, refused_growth = refuse;
+	growths = 0, live = 0, refused_growth = refuse;
 	return row->call(row->one.at, row->one.length, row->other.at, row->other.length);
+}
+
+/* Whether an answer is the row's, or want of memory where that may be, and whether each block came back. */
+static bool is_right(const struct row *row, uint32_t answer, bool may_want)
+{
+	return (answer == row->answer || (may_want && answer == OUT_OF_MEMORY)) && !live;
 }
 
 int main(void)
 {
+	static const long late[] = {200, 300, 400};
 	long refused = 0, wrong = 0;
 
 	make_rows();
 	for (int i = 0; i < count; i++) {
 		const struct row *row = &rows[i];
-		uint32_t answer = answer_with(row, 0);
-		long all = growths, wants = 0;
-		bool holds = answer == row->answer && !live;
+		bool holds = is_right(row, answer_with(row, 0), false);
+		long all = growths, wants = 0, before = wrong;
 
-		for (long refuse = 1; refuse <= all; refuse++) {
-			answer = answer_with(row, refuse);
-			wants += answer == OUT_OF_MEMORY;
-			holds = (answer == row->answer || answer == OUT_OF_MEMORY) && !live && holds;
-		}
-		refused += all;
 		wrong += !holds;
-		printf("%s%s: %ld growths, %ld answers are want of memory\n", holds ? "" : "WRONG: ", row->name, all, wants);
+		for (long refuse = 1; refuse <= all; refuse++) {
+			uint32_t answer = answer_with(row, refuse);
+
+			wants += answer == OUT_OF_MEMORY;
+			wrong += !is_right(row, answer, true);
+		}
+		for (int j = 0; row->needs_no_tree && j < 3; j++)
+			wrong += !is_right(row, answer_with(row, late[j]), false);
+		refused += all;
+		printf("%s%s: %ld growths, %ld answers are want of memory\n", wrong == before ? "" : "WRONG: ", row->name, all, wants);
 	}
-	printf("%ld growths were refused, and %ld rows were answered wrong\n", refused, wrong);
+	printf("%ld growths were refused, and %ld answers were wrong\n", refused, wrong);
 	return wrong != 0;
 }

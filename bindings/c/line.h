@@ -16,9 +16,10 @@ struct pair {
 static int
 digit(char c)
 {
-	const char *digits = "0123456789abcdef", *at = c ? strchr(digits, c) : NULL;
+	const char *digits = "0123456789abcdefABCDEF", *at = c ? strchr(digits, c) : NULL;
+	int place = at ? (int) (at - digits) : -1;
 
-	return at ? (int) (at - digits) : -1;
+	return place < 16 ? place : place - 6;
 }
 
 /* The bytes of a hex text that ends at 'end', and whether it is one. */

@@ -66,13 +66,14 @@ static void
 report_refusal(Jsonb *keywords, struct judge_answer answer)
 {
 	const char *name = judge_code_name(answer.code);
+	const char *member = judge_code_has_member(answer.code) ? member_name(keywords, answer.member) : NULL;
 
 	if (answer.code >= lengthof(refusals) || refusals[answer.code].detail == NULL)
 		elog(ERROR, "jsonb_valid: unexpected code %u", answer.code);
 	ereport(ERROR,
 			(errcode(refusals[answer.code].sqlstate),
-			 judge_code_has_member(answer.code)
-			 ? errmsg("jsonb_valid: %s at member \"%s\"", name, member_name(keywords, answer.member))
+			 member
+			 ? errmsg("jsonb_valid: %s at member \"%s\"", name, member)
 			 : errmsg("jsonb_valid: %s", name),
 			 errdetail("%s", refusals[answer.code].detail)));
 }

@@ -35,8 +35,10 @@ fn judge_all(alloc: Global, checks: &Checks, documents: &[u8], offsets: &[usize]
 }
 
 /// Puts the code of each document in its place, and answers `JUDGED`. The documents stand one behind another: each lies from its
-/// offset to the next one, so there is one offset more than codes. Where it answers anything else, no code is written: the offsets
-/// do not fit, memory is wanting for the keywords, or they are refused, and then the answer is the right one for every document.
+/// offset to the next one, so there is one offset more than codes.
+///
+/// Any other answer says why no code is written: the offsets do not fit, memory is wanting for the keywords, or they are refused.
+/// A refusal is the right answer for every document.
 #[unsafe(no_mangle)]
 pub extern "C" fn judge_c_each(
     alloc: Global,

@@ -12,7 +12,8 @@ use crate::answer::JudgeAnswer;
 use judge::{JudgeError, judge};
 use std::alloc::Global;
 
-/// The answer to the keywords and the document, both as `jsonb` bytes. Want of memory is as rare as of `judge`.
+/// The answer to the keywords and the document, both as `jsonb` bytes. Want of memory comes only where it may
+/// come of `judge`.
 #[unsafe(no_mangle)]
 pub extern "C" fn judge_c_judge(alloc: Global, keywords: &[u8], document: &[u8]) -> JudgeAnswer
     ensures right { IsGiven result (Err JudgeError.OutOfMemory) ⊎ IsRightAnswer keywords.now document.now result }

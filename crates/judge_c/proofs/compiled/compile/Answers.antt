@@ -1,10 +1,15 @@
+use Rattle.std.proofs.Common.{Ok}
 use Rattle.jsonb.specs.Nodes.{node_tree}
 use Rattle.jsonb.specs.Root.{IsRead}
 use Rattle.jsonb.specs.declared.error.JsonbError.TheVariants as read
-use Rattle.judge.specs.Compiled.{IsCompiled}
-use Rattle.judge.specs.declared.errors.KeywordError.TheVariants as keyword
 use Rattle.judge_c.proofs.RightAnswers.{keywords_refused, keyword_refused, sure}
 use Rattle.judge_c.proofs.compiled.compile.Goals as goal
+
+pub returns-in-Err : goal.returns-in-Err
+returns-in-Err c =
+    let t = node_tree c.in-Ok.root in
+    keyword_refused c.args.keywords.now t (sure c.in-Ok.root read.OutOfMemory (IsRead c.args.keywords.now (Ok t)) c.in-Ok.ensures.read)
+    c.in-Err.error c.refusal.result c.refusal.ensures c.in-Err.ensures.right
 
 pub returns-in-Err-Malformed : goal.returns-in-Err-Malformed
 returns-in-Err-Malformed c =

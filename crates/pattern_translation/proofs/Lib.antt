@@ -1,0 +1,2 @@
+pub mod WitnessMatches
+pub mod WitnessLaws

@@ -106,8 +106,7 @@ times_match : (M : ℕ → ℕ → Type 0) (u y : Text) (n i : ℕ) → ((k : �
 times_match M u y zero i m a = omega arith
 times_match M u y (suc n) i m a =
     let l = length-append u (times n u) in
-    let k : (i + length u) + length (times n u) ≡ i + length (u ++ times n u) = omega (arith, l) in
-    (
+    let k : (i + length u) + length (times n u) ≡ i + length (u ++ times n u) = omega (arith, l) in (
       i + length u,
       m i (at_left u (times n u) y i a),
       subst (λ j. Times M n (i + length u) j) k (times_match M u y n (i + length u) m (at_right u (times n u) y i a)),
@@ -153,8 +152,7 @@ sequence_matches P Q (Some v) (Some u) f g w e y i a =
     let j = short_is (v ++ u) w e in
     let b = subst (λ z. At z y i) j a in
     let n = length-append v u in
-    let k : (i + length v) + length u ≡ i + length w = omega (arith, n, ap length j) in
-    (
+    let k : (i + length v) + length u ≡ i + length w = omega (arith, n, ap length j) in (
       i + length v,
       f v refl y i (at_left v u y i b),
       subst (λ z. Q (i + length v) z y) k (g u refl y (i + length v) (at_right v u y i b)),

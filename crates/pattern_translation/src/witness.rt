@@ -144,11 +144,7 @@ fn repeat_text(alloc: Global, text: &str, count: u32) -> Result<Option<String>, 
     Ok(Some(copies(alloc, text, count)?))
 }
 
-fn repeat(
-    alloc: Global,
-    count: Count,
-    inner: &Option<String>,
-) -> Result<Option<String>, AllocError>
+fn repeat(alloc: Global, count: Count, inner: &Option<String>) -> Result<Option<String>, AllocError>
     ensures { IfOk result (λ o. text_of o ≡ repeated (count_in count) (text_of inner.now)) }
 {
     match count {
@@ -241,10 +237,7 @@ fn witness_at(
 }
 
 /// The witness of the whole tree, from those of its parts.
-pub(crate) fn tree_witness(
-    alloc: Global,
-    pattern: &Pattern,
-) -> Result<Option<String>, AllocError>
+pub(crate) fn tree_witness(alloc: Global, pattern: &Pattern) -> Result<Option<String>, AllocError>
     ensures { IfOk result (λ o. text_of o ≡ witness (tree_of pattern.now)) }
 {
     let root = pattern.root();

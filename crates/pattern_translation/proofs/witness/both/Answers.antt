@@ -14,7 +14,7 @@ returns-then-right-gt256 c =
     let n = length-append left right in
     let long : 256 < length (left ++ right) =
     elim c.then-right-gt256.branch [
-      then-right-gt256-via-then-right-gt256 w ↦ omega arith
+      | then-right-gt256-via-then-right-gt256 w ↦ omega arith
       | then-right-gt256-via-else-right-gt256+then-left-right w ↦ omega arith
     ] in
     sym (ap short (sym (chars-append left right c.utf8.left)) ∙ short_none (left ++ right) (IsUtf8-append left right c.utf8.left

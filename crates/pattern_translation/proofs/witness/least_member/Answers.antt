@@ -28,7 +28,7 @@ loop-code-preserved c =
     let l : code < 1114112 = omega arith in
     let fails : scalar code && tree_has (node_tree c.args.pattern.now c.args.id) code ≡ false =
     elim c.match-from_u32.branch [
-      in-Some+else-class_has w ↦ ap (λ b. scalar code && b) (sym w.if-class_has.ensures) ∙ and_false (scalar code)
+      | in-Some+else-class_has w ↦ ap (λ b. scalar code && b) (sym w.if-class_has.ensures) ∙ and_false (scalar code)
       | in-None w ↦ ap (λ b. b && tree_has (node_tree c.args.pattern.now c.args.id) code)
           (false_from_ne_true (scalar code) w.in-None.ensures.value)
     ] in

@@ -9,7 +9,7 @@ returns-then-text-gt256 c =
     let more = mul-le-mul_left (length c.args.text.now) c.requires.some in
     let long : 256 < c.args.count * length c.args.text.now =
     elim c.then-text-gt256.branch [
-      then-text-gt256-via-then-text-gt256 w ↦ omega (arith, more)
+      | then-text-gt256-via-then-text-gt256 w ↦ omega (arith, more)
       | then-text-gt256-via-else-text-gt256+then-text-count-gt256 w ↦ omega arith
     ] in
     sym (many_long c.args.count c.args.text.now c.utf8.text long)

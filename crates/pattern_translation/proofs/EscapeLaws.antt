@@ -1,5 +1,5 @@
 -- One step over the text of a pattern.
-use Rattle.std.proofs.Common.{◌≡◌, ℕ, Bool, true, false, [], ◌∷◌, drop, refl, ap, sym, ◌∙◌, subst}
+use Rattle.std.proofs.Common.{◌≡◌, ℕ, Bool, false, [], ◌∷◌, drop, refl, ap, sym, ◌∙◌}
 use Rattle.std.specs.Prelude.{if◌then◌else◌, ◌==◌, ◌||◌, not}
 use Rattle.pattern_model.specs.Text.{Text}
 use Rattle.pattern_translation.specs.Refusals.{is_other_escape, has_other_escape}

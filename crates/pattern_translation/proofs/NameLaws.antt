@@ -1,10 +1,10 @@
 -- The names of the groups in the nodes that are left.
-use Rattle.std.proofs.Common.{◌≡◌, ℕ, ◌+◌, ◌<◌, Bool, true, false, List, [], ◌∷◌, ◌++◌, Option, Some, None, refl, ap, sym, ◌∙◌, subst, arith, append_assoc, append-nil}
-use Rattle.std.specs.Prelude.{◌||◌, reverse, option_map, cond}
+use Rattle.std.proofs.Common.{◌≡◌, ◌+◌, ◌<◌, Bool, true, false, List, [], ◌∷◌, ◌++◌, Some, None, refl, ap, sym, ◌∙◌, subst, arith, append_assoc}
+use Rattle.std.specs.Prelude.{◌||◌, reverse, cond}
 use Rattle.std.specs.Str.{bytes_eq}
 use Rattle.std.proofs.lemmas.List.{reverse-append}
-use Rattle.pattern_model.specs.Tree.{Name, Leaf, Mark, Bounds, Tree}
-use Rattle.pattern_model.specs.SharedNames.{names, mark_names}
+use Rattle.pattern_model.specs.Tree.{Name, Mark, Tree}
+use Rattle.pattern_model.specs.SharedNames.{names}
 use Rattle.pattern_tree.specs.declared.form.NodeId.{NodeId}
 use Rattle.pattern_tree.specs.declared.pattern.Pattern.{Pattern}
 use Rattle.pattern_tree.specs.Forms.{mark_name}

@@ -1,15 +1,15 @@
 -- A tree matches its witness.
-use Rattle.std.proofs.Common.{◌≡◌, ℕ, zero, suc, ◌+◌, ◌≤◌, Bool, true, false, List, [], ◌∷◌, ◌++◌, length, ◌⊎◌, Option, Some, None, refl, ap, sym, ◌∙◌, subst, arith, inl, inr, append_assoc, append-nil, length-append, zero-add}
+use Rattle.std.proofs.Common.{◌≡◌, ℕ, zero, suc, ◌+◌, Bool, true, false, [], ◌∷◌, ◌++◌, length, ◌⊎◌, Option, Some, None, refl, ap, sym, ◌∙◌, subst, arith, inl, inr, append_assoc, append-nil, length-append, zero-add}
 use Rattle.std.specs.Prelude.{if◌then◌else◌, ◌==◌, ◌&&◌, nat_le, not, slice_get, option_map, option_and_then}
 use Rattle.std.specs.List.{list_all}
 use Rattle.std.specs.Option.{option_or}
 use Rattle.std.proofs.lemmas.Bool.Decides.{nat_tests}
 use lib.Utf8.{encodes, scalar}
 use Rattle.pattern_model.specs.Text.{Text}
-use Rattle.pattern_model.specs.Tree.{Leaf, Mark, Count, Bounds, Tree}
+use Rattle.pattern_model.specs.Tree.{Leaf, Count, Tree}
 use Rattle.pattern_model.specs.Members.{escape_has, class_has, is_no_property}
 use Rattle.pattern_model.specs.Ordered.{IsOrdered, MostRises}
-use Rattle.pattern_model.specs.Matches.{One, is_line_end, is_plain_group, is_narrow, LeafMatches, Times, IsAtLeast, IsAtMost, Matches, is_covered}
+use Rattle.pattern_model.specs.Matches.{One, is_line_end, is_plain_group, is_narrow, Times, IsAtLeast, IsAtMost, Matches, is_covered}
 use Rattle.pattern_model.proofs.BoolLaws.{both, and_right, code_is}
 use Rattle.pattern_translation.specs.Witness.{short, least_from, least, member, leaf_witness, joined, times, repeated, witness, free_leaf, without_assertions}
 

@@ -1,5 +1,5 @@
 -- What is known of the nodes of a pattern in memory.
-use Rattle.std.specs.Prelude.{◌≡◌, ℕ, ◌<◌, ◌≤◌, ◌+◌, List, length, slice_index_or}
+use Rattle.std.specs.Prelude.{◌≡◌, ℕ, ◌<◌, ◌≤◌, List, length, slice_index_or}
 use Rattle.pattern_model.specs.Tree.{Tree}
 use Rattle.pattern_tree.specs.declared.pattern.Pattern.{Pattern}
 use Rattle.pattern_tree.specs.Patterns.{node_tree}

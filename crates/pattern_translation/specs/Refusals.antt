@@ -1,6 +1,6 @@
 -- Which patterns have no translation to the pattern syntax of Rust, and why. The causes are this project's own; they are what
 -- that syntax lacks (the documentation of the crate `regex`, section "Syntax").
-use Rattle.std.specs.Prelude.{ℕ, ◌+◌, Bool, true, false, not, ◌&&◌, ◌||◌, ◌==◌, nat_le, nat_lt, nat_eq, if◌then◌else◌, List, [], ◌∷◌, drop, Option, Some, None}
+use Rattle.std.specs.Prelude.{ℕ, ◌+◌, Bool, true, false, not, ◌&&◌, ◌||◌, ◌==◌, nat_le, nat_lt, if◌then◌else◌, List, [], ◌∷◌, drop, Option, Some, None}
 use Rattle.std.specs.List.{list_all}
 use Rattle.std.specs.Str.{bytes_eq}
 use Rattle.pattern_model.specs.Text.{Text, is_at}
@@ -9,7 +9,7 @@ use Rattle.pattern_model.specs.Members.{is_no_property, is_within}
 use Rattle.pattern_model.specs.Properties.{is_word}
 use Rattle.pattern_model.specs.SharedNames.{names}
 use Rattle.pattern_model.specs.Matches.{is_narrow}
-use Rattle.pattern_model.specs.Tree.{Item, Leaf, Mark, Bounds, Name, Tree, is_look}
+use Rattle.pattern_model.specs.Tree.{Leaf, Mark, Bounds, Name, Tree, is_look}
 
 -- some leaf, some group's mark or some quantifier of the tree passes its test
 abbrev pub some_part : (Leaf → Bool) → (Mark → Bool) → (Bounds → Bool) → Tree → Bool

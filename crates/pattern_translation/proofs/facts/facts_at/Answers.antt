@@ -1,4 +1,4 @@
-use Rattle.std.proofs.Common.{◌≡◌, ◌+◌, ◌<◌, sym, subst, refl, arith, false, length}
+use Rattle.std.proofs.Common.{sym, subst, refl, arith, false}
 use Rattle.std.specs.Prelude.{option_map}
 use Rattle.pattern_tree.specs.Nodes.{count_in}
 use Rattle.pattern_tree.specs.Patterns.{node_tree}

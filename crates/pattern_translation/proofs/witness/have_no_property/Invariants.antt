@@ -1,4 +1,4 @@
-use Rattle.std.proofs.Common.{◌≡◌, true, take, map}
+use Rattle.std.proofs.Common.{◌≡◌, true, take}
 use Rattle.std.specs.List.{list_all}
 use Rattle.pattern_model.specs.Members.{is_no_property}
 use Rattle.pattern_tree.specs.Nodes.{item_of}

@@ -1,10 +1,10 @@
-use Rattle.std.proofs.Common.{◌≡◌, ◌<◌, Bool, true, false, Some, refl, ap, sym, ◌∙◌, arith}
+use Rattle.std.proofs.Common.{◌≡◌, ◌<◌, false, Some, refl, ap, sym, ◌∙◌, arith}
 use Rattle.std.specs.Prelude.{◌&&◌}
 use Rattle.std.proofs.lemmas.Bool.{false_from_ne_true}
 use lib.Utf8.{scalar}
 use Rattle.pattern_model.specs.Members.{tree_has}
 use Rattle.pattern_tree.specs.Patterns.{node_tree}
-use Rattle.pattern_translation.specs.Witness.{least, least_from}
+use Rattle.pattern_translation.specs.Witness.{least}
 use Rattle.pattern_translation.proofs.WitnessLaws.{least_here, least_past, least_none, and_false}
 use Rattle.pattern_translation.proofs.witness.least_member.Goals as goal
 use Rattle.pattern_translation.proofs.witness.least_member.Goals.{in-Some+else-class_has, in-None}

@@ -1,4 +1,4 @@
-use Rattle.std.proofs.Common.{◌≡◌, ◌≤◌, length}
+use Rattle.std.proofs.Common.{◌≡◌, length}
 use Rattle.pattern_translation.specs.Texts.{AreWitnesses}
 use Rattle.pattern_translation.proofs.witness.tree_witness.Given as goal
 

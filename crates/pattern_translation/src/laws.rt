@@ -1,0 +1,14 @@
+//! Laws of translations and witnesses.
+
+ghost use Rattle.std.specs.Prelude.{◌≡◌, true, length};
+ghost use Rattle.pattern_model.specs.Text.{Text};
+ghost use Rattle.pattern_model.specs.Tree.{Tree};
+ghost use Rattle.pattern_model.specs.Ordered.{IsOrdered};
+ghost use Rattle.pattern_model.specs.Matches.{is_covered, Matches};
+ghost use Rattle.pattern_translation.specs.Witness.{witness, without_assertions};
+
+/// A tree matches its witness from end to end, with starts, ends and boundaries read as empty. Each tree of a text is ordered.
+pub fn witnesses_match()
+    ensures { (t : Tree) (w : Text) → IsOrdered t → is_covered t ≡ true → witness t ≡ Some w →
+        Matches (without_assertions t) w 0 (length w) }
+{}

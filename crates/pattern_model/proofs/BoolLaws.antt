@@ -15,6 +15,11 @@ and_right false b e = cc
 pub both : (a b : Bool) → a && b ≡ true → (a ≡ true) × (b ≡ true)
 both a b e = (and_left a b e, and_right a b e)
 
+-- what is true of each is true of both
+pub and_true : (a b : Bool) → a ≡ true → b ≡ true → a && b ≡ true
+and_true true b h g = g
+and_true false b h g = cc
+
 -- what a test of numbers says
 pub is_below : (i n : ℕ) → nat_lt i n ≡ true → i < n
 is_below i n e = grind (arith, nat_tests)

@@ -9,6 +9,7 @@ use Rattle.ucd_derived.specs.AlphabeticRanges.{alphabetic_ranges}
 use Rattle.ucd_category.specs.GeneralCategory.{general_category}
 use Rattle.ucd_category.specs.GeneralCategoryRows.{general_category_rows}
 use Rattle.pattern_model.specs.Text.{Text, is_at}
+use Rattle.pattern_model.proofs.BoolLaws.{and_true}
 use Rattle.pattern_model.specs.Tree.{Escape, Leaf, Mark, Count, Tree, Token, tokens_of, Level, fits}
 use Rattle.pattern_model.specs.Escapes.{character_escape, class_escape}
 use Rattle.pattern_model.specs.Letters.{is_alphanumeric}
@@ -63,7 +64,8 @@ tokens_alternatives t (w ∷ ws) =
     ∙ ap (λ z. tokens_of t ++ (Token.bar ∷ z ++ bars_of ws)) (tokens_alternative w)
 
 -- the trees have the shape of rows, alternatives and patterns
-row_alternative : (t : Tree) → fits Level.row t ≡ true → fits Level.alternative t ≡ true
+-- a row is an alternative
+pub row_alternative : (t : Tree) → fits Level.row t ≡ true → fits Level.alternative t ≡ true
 row_alternative Tree.empty h = cc
 row_alternative (Tree.leaf l) h = h
 row_alternative (Tree.group m t) h = h
@@ -79,13 +81,9 @@ alternative_pattern (Tree.repeat t b) h = h
 alternative_pattern (Tree.sequence l r) h = h
 alternative_pattern (Tree.either l r) h = cc
 
-both : (a b : Bool) → a ≡ true → b ≡ true → a && b ≡ true
-both true b h g = g
-both false b h g = cc
-
 fits_codes : (t : Tree) (w : Text) → fits Level.row t ≡ true → fits Level.row (with_codes t w) ≡ true
 fits_codes t [] h = h
-fits_codes t (c ∷ w) h = fits_codes (Tree.sequence t (Tree.leaf (Leaf.code c))) w (both (fits Level.row t) true h refl)
+fits_codes t (c ∷ w) h = fits_codes (Tree.sequence t (Tree.leaf (Leaf.code c))) w (and_true (fits Level.row t) true h refl)
 
 fits_alternative : (w : Text) → fits Level.alternative (alternative w) ≡ true
 fits_alternative [] = refl
@@ -95,7 +93,7 @@ fits_alternatives : (t : Tree) (ws : List Text) → fits Level.disjunction t ≡
 fits_alternatives t [] h = h
 fits_alternatives t (w ∷ ws) h =
     fits_alternatives (Tree.either t (alternative w)) ws
-    (both (fits Level.disjunction t) (fits Level.alternative (alternative w)) h (fits_alternative w))
+    (and_true (fits Level.disjunction t) (fits Level.alternative (alternative w)) h (fits_alternative w))
 
 -- a tree that names nothing, refers to nothing, and whose matches are spoken of
 record Easy (t : Tree) : Type 0 where
@@ -107,11 +105,11 @@ record Easy (t : Tree) : Type 0 where
 
 easy_row : (t : Tree) (l : Leaf) → Easy t → Easy (Tree.leaf l) → Easy (Tree.sequence t (Tree.leaf l))
 easy_row t l h g = record {
-  apart = both (apart t) true h.apart refl;
+  apart = and_true (apart t) true h.apart refl;
   nameless = ap (λ z. z ++ []) h.nameless;
   numberless = ap (λ z. z ++ numbers (Tree.leaf l)) h.numberless ∙ g.numberless;
   free = ap (λ z. z ++ references (Tree.leaf l)) h.free ∙ g.free;
-  covered = both (is_covered t) _ h.covered g.covered;
+  covered = and_true (is_covered t) _ h.covered g.covered;
 }
 
 easy_code : (c : ℕ) → Easy (Tree.leaf (Leaf.code c))
@@ -130,11 +128,11 @@ easy_alternatives t [] h = h
 easy_alternatives t (w ∷ ws) h =
     let a = easy_alternative w in
     easy_alternatives (Tree.either t (alternative w)) ws (record {
-      apart = both (apart t) _ h.apart a.apart;
+      apart = and_true (apart t) _ h.apart a.apart;
       nameless = ap (λ z. z ++ names (alternative w)) h.nameless ∙ a.nameless;
       numberless = ap (λ z. z ++ numbers (alternative w)) h.numberless ∙ a.numberless;
       free = ap (λ z. z ++ references (alternative w)) h.free ∙ a.free;
-      covered = both (is_covered t) _ h.covered a.covered;
+      covered = and_true (is_covered t) _ h.covered a.covered;
     })
 
 -- how the tree of a literal pattern is read
@@ -296,13 +294,13 @@ pub exact_has_tree : (x w : Text) → IsAnalysis x (Analysis.exact w) → HasTre
 unfolding token_from
 exact_has_tree x w (y, e, l) =
     has_tree x (exact_tree w) (easy_row (prefix_tree w) Leaf.end (easy_codes (Tree.leaf Leaf.start) w easy_start) easy_end)
-    (both (fits Level.row (prefix_tree w)) true (fits_codes (Tree.leaf Leaf.start) w refl) refl)
+    (and_true (fits Level.row (prefix_tree w)) true (fits_codes (Tree.leaf Leaf.start) w refl) refl)
     (subst (λ z. Reads false x (z ++ (Token.leaf Leaf.end ∷ []))) (sym (tokens_codes (Tree.leaf Leaf.start) w))
     (94, y, y, e, refl, literals_read y w (36 ∷ []) (Token.leaf Leaf.end ∷ []) l (36, [], [], refl, refl, refl)))
 
 easy_group : (t : Tree) → Easy t → Easy (Tree.sequence (Tree.leaf Leaf.start) (Tree.group Mark.capture t))
 easy_group t h = record {
-  apart = both (apart t && disjoint (names t) []) _ (both (apart t) _ h.apart (ap (λ z. disjoint z []) h.nameless))
+  apart = and_true (apart t && disjoint (names t) []) _ (and_true (apart t) _ h.apart (ap (λ z. disjoint z []) h.nameless))
       (ap (λ z. disjoint z []) h.nameless);
   nameless = h.nameless;
   numberless = h.numberless;
@@ -319,7 +317,7 @@ alternation_has_tree x y w ws e a =
     fits_alternatives (alternative w) ws (alternative_pattern (alternative w) (fits_alternative w)) in
     has_tree x (alternation_tree w ws)
     (easy_row row Leaf.end (easy_group inner (easy_alternatives (alternative w) ws (easy_alternative w))) easy_end)
-    (both (fits Level.row row) true shape refl) (
+    (and_true (fits Level.row row) true shape refl) (
       94,
       40 ∷ y,
       40 ∷ y,

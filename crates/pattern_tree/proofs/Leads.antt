@@ -132,12 +132,12 @@ module _ (wide : Bool) where
       let (token, others) = same_pair (t2, rest2) (t, rest) (token_from wide c after) e2 e in
       let none : run_named ts s ≡ None = ap (λ z. run_named z s) same ∙ (ap (λ z. run_named (z ∷ us) s) token ∙ f us) in cc
 
-  -- the next token can't come here: no tree
+  -- the next token cannot come here: no tree
   pub refused_step : (x : Text) (s : State) (c : ℕ) (after rest : Text) (t : Token) → Leads x s (c ∷ after) →
       token_from wide c after ≡ Some (t, rest) → step t s ≡ None → (tree : Tree) → Grammar wide x tree → ⊥
   refused_step x s c after rest t l e f tree g = stuck x s c after rest t l e (λ ts. named_stuck t ts s f) tree g
 
-  -- the next group can't have its name: no tree
+  -- the next group cannot have its name: no tree
   pub refused_name : (x : Text) (s : State) (c : ℕ) (after rest : Text) (t : Token) → Leads x s (c ∷ after) →
       token_from wide c after ≡ Some (t, rest) → allowed t s ≡ false → (tree : Tree) → Grammar wide x tree → ⊥
   refused_name x s c after rest t l e f tree g = stuck x s c after rest t l e (λ ts. named_refused t ts s f) tree g

@@ -8,7 +8,8 @@ use Rattle.pattern_model.specs.Tree.{Name, Mark, Tree, empty, leaf, group, repea
 use Rattle.pattern_tree.specs.Machine.{Frame, Outer, State, fresh, push, pushed_before, whole, barred, begin, with_here}
 use Rattle.pattern_model.specs.SharedNames.{is_in, disjoint, mark_names, names, apart}
 use Rattle.pattern_tree.specs.LiveNames.{opt_names, live_frame, live_outer, live, run_named}
-use Rattle.pattern_tree.proofs.Sound.{term_row, row_alternative}
+use Rattle.pattern_model.proofs.LiteralTrees.{row_alternative}
+use Rattle.pattern_tree.proofs.Sound.{term_row}
 use Rattle.pattern_tree.proofs.Complete.{load, load_atom, whole_load}
 use Rattle.pattern_model.proofs.BoolLaws.{and_left, and_right}
 

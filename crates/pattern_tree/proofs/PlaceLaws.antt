@@ -371,7 +371,7 @@ placed_opens p new s m at end h lt moves free g a =
         let l : is_in q (live_frame s.here) ≡ false = h.live q ∙ b.1 in
         sym (or_false _) ∙ (ap (λ z. is_in q (opt_names s.here.done) || z) (sym l) ∙ (h.all q ∙ b.0))
 
--- the names that a group can't have are those whose last group stands in an open alternative
+-- the names that a group cannot have are those whose last group stands in an open alternative
 outer_bound : (f : Name → Option ℕ) (os : List Outer) (cs : List Scope) (q : Name) (p : ℕ) → OuterPlaced f os cs → f q ≡ Some p →
     is_in q (live_outer os) ≡ true → p < bottom cs
 outer_bound f [] cs q p h e k = cc
@@ -437,7 +437,7 @@ outer_lives f (o ∷ os) (c ∷ cs) q p alternative h e le =
         all_of false true = refl
         all_of false false = refl
 
--- a group can't have a name that is taken
+-- a group cannot have a name that is taken
 pub live_is : (p : Places) (s : State) (at : ℕ) (n : Name) → Placed p s at → is_in n (live s) ≡ taken p n
 live_is p s at n h = in_append n (live_outer s.outer) (live_frame s.here) ∙ (ap (λ z. is_in n (live_outer s.outer) || z) (h.live n)
     ∙ go (place_of p n) refl)

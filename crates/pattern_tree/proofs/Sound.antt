@@ -4,7 +4,8 @@ use Rattle.std.proofs.lemmas.List.{append-nil}
 use Rattle.std.specs.Prelude.{if◌then◌else◌}
 use Rattle.pattern_model.specs.Tree.{Leaf, Mark, Bounds, Tree, empty, leaf, group, repeat, sequence, either, Token, tokens_of, Level, fits}
 use Rattle.pattern_tree.specs.Machine.{Frame, Outer, State, fresh, push, pushed_before, whole, with_done, barred, can_repeat, repeated, closed, finished, run, step, begin, with_here, tree_of_tokens, alternative_of, spelled_option, spelled_done, spelled_frame, spelled_outer, spelled}
-use Rattle.pattern_model.proofs.BoolLaws.{and_left, and_right}
+use Rattle.pattern_model.proofs.BoolLaws.{and_left, and_right, and_true}
+use Rattle.pattern_model.proofs.LiteralTrees.{row_alternative}
 
 abbrev pub row_ok : Option Tree → Option Tree → Bool
 row_ok None None = true
@@ -28,10 +29,6 @@ pub record Fine (s : State) : Type 0 where
   pub here : FineFrame s.here
   pub outer : FineOuter s.outer
 
-both : (a b : Bool) → a ≡ true → b ≡ true → a && b ≡ true
-both true b e h = h
-both false b e h = cc
-
 pub term_row : (t : Tree) → fits Level.term t ≡ true → fits Level.row t ≡ true
 term_row empty h = cc
 term_row (leaf l) h = h
@@ -39,14 +36,6 @@ term_row (group m t) h = h
 term_row (repeat t b) h = h
 term_row (sequence l r) h = cc
 term_row (either l r) h = cc
-
-pub row_alternative : (t : Tree) → fits Level.row t ≡ true → fits Level.alternative t ≡ true
-row_alternative empty h = cc
-row_alternative (leaf l) h = h
-row_alternative (group m t) h = h
-row_alternative (repeat t b) h = h
-row_alternative (sequence l r) h = h
-row_alternative (either l r) h = cc
 
 pub alternative_disjunction : (t : Tree) → fits Level.alternative t ≡ true → fits Level.disjunction t ≡ true
 alternative_disjunction empty h = refl
@@ -59,7 +48,7 @@ alternative_disjunction (either l r) h = cc
 repeat_atom : (t : Tree) → fits Level.term t ≡ true → can_repeat t ≡ true → fits Level.atom t ≡ true
 repeat_atom empty h c = cc
 repeat_atom (leaf l) h c = c
-repeat_atom (group m t) h c = both _ _ c h
+repeat_atom (group m t) h c = and_true _ _ c h
 repeat_atom (repeat t b) h c = cc
 repeat_atom (sequence l r) h c = cc
 repeat_atom (either l r) h c = cc
@@ -79,7 +68,7 @@ alternative_tokens (Some r) (Some t) h = refl
 whole_fits : (d : Option Tree) (b l : Option Tree) → done_ok d ≡ true → row_ok b l ≡ true →
     fits Level.disjunction (with_done d (alternative_of b l)) ≡ true
 whole_fits None b l g h = alternative_disjunction (alternative_of b l) (alternative_fits b l h)
-whole_fits (Some d) b l g h = both _ _ g (alternative_fits b l h)
+whole_fits (Some d) b l g h = and_true _ _ g (alternative_fits b l h)
 
 whole_tokens : (d : Option Tree) (b l : Option Tree) → row_ok b l ≡ true →
     tokens_of (with_done d (alternative_of b l)) ≡ spelled_done d ++ (spelled_option b ++ spelled_option l)
@@ -89,9 +78,9 @@ whole_tokens (Some d) b l h = ap (λ z. tokens_of d ++ (Token.bar ∷ z)) (alter
 
 push_ok : (b l : Option Tree) (t : Tree) → row_ok b l ≡ true → fits Level.term t ≡ true → row_ok (pushed_before b l) (Some t) ≡ true
 push_ok None None t h g = g
-push_ok None (Some x) t h g = both _ _ (term_row x h) g
+push_ok None (Some x) t h g = and_true _ _ (term_row x h) g
 push_ok (Some r) None t h g = cc
-push_ok (Some r) (Some x) t h g = both _ _ h g
+push_ok (Some r) (Some x) t h g = and_true _ _ h g
 
 pushed_tokens : (b l : Option Tree) → row_ok b l ≡ true → spelled_option (pushed_before b l) ≡ spelled_option b ++ spelled_option l
 pushed_tokens None None h = refl
@@ -152,7 +141,7 @@ step_closes f o os h = record {
 repeat_ok : (b : Option Tree) (t : Tree) (bounds : Bounds) → row_ok b (Some t) ≡ true → can_repeat t ≡ true →
     row_ok b (Some (repeat t bounds)) ≡ true
 repeat_ok None t bounds h c = repeat_atom t h c
-repeat_ok (Some r) t bounds h c = both _ _ (and_left _ _ h) (repeat_atom t (and_right _ _ h) c)
+repeat_ok (Some r) t bounds h c = and_true _ _ (and_left _ _ h) (repeat_atom t (and_right _ _ h) c)
 
 step_times : (b : Bounds) (d bf : Option Tree) (t : Tree) (os : List Outer) →
     Fine (with_here os (record { done = d; before = bf; last = Some t })) → can_repeat t ≡ true →

@@ -11,7 +11,7 @@ opt_names (Some t) = names t
 abbrev pub live_frame : Frame → List Name
 live_frame f = opt_names f.before ++ opt_names f.last
 
--- the names that a group that opens here can't have
+-- the names that a group that opens here cannot have
 abbrev pub live_outer : List Outer → List Name
 live_outer [] = []
 live_outer (o ∷ os) = live_outer os ++ (live_frame o.frame ++ mark_names o.mark)

@@ -155,7 +155,7 @@ impl Places {
         }
     }
 
-    /// Takes a token that goes from one place to another: false where it is a group whose name it can't have.
+    /// Takes a token that goes from one place to another: false where it is a group whose name it cannot have.
     pub fn take(
         &mut self,
         alloc: Global,

@@ -10,6 +10,7 @@ pub mod NumberStands
 pub mod Numerals
 pub mod TreeStands
 pub mod RawKeys
+pub mod InMemory
 pub mod ContentsLaws
 pub mod TextBytes
 pub mod Canonical

@@ -16,3 +16,4 @@ pub mod TextBytes
 pub mod Canonical
 pub mod CanonicalValues
 pub mod CanonicalSeats
+pub mod StoredHeaders

@@ -2,7 +2,7 @@
 use Rattle.std.proofs.Common.{ℕ, ◌+◌, [], length, refl, arith}
 use Rattle.std.proofs.lemmas.List.{length-append}
 use Rattle.json_model.specs.Rising.{KeysRise, KeysRiseInElements, KeysRiseInMembers}
-use Rattle.json_model.specs.Tree.{Scalar, null, boolean, number, string, Tree, scalar, array, object, Elements, no_elements, element, Members, no_members, member, keys}
+use Rattle.json_model.specs.Tree.{Scalar, null, boolean, number, string, Tree, scalar, array, object, Elements, no_elements, element, Members, no_members, member}
 use Rattle.jsonb_layout.specs.declared.form.Form.TheVariants.{Array, Object}
 use Rattle.jsonb_encode.specs.Canonical.{IsCanonicalScalar, IsCanonicalItem, AreCanonicalElements, AreCanonicalValues, IsCanonical}
 use Rattle.jsonb_encode.specs.Encoded.{container, scalar_item, item, element_items, value_items, array_items, object_items, key_bytes, count_elements, count_members, encoded, canonical}

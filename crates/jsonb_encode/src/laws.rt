@@ -70,8 +70,8 @@ pub fn canonical_bytes_stand()
     ensures { (t : Tree) (b : List ℕ) → IsCanonical b t → Stands b t }
 {}
 
-/// The tree of each value whose containers are within the limits has canonical bytes: those that `encode` gives. No other tree has
-/// any.
+/// Where the keys of a tree rise at each level, its numbers are in range and its containers are within the limits, it has canonical
+/// bytes: those that `encode` gives for a value. No other tree has any.
 pub fn values_have_canonical_bytes()
     ensures some { (t : Tree) → IsOfValue t → IsWithinLimits Short t → IsCanonical (canonical t) t }
     ensures only_of_value { (t : Tree) (b : List ℕ) → IsCanonical b t → IsOfValue t }

@@ -1,23 +1,22 @@
 -- Looking at the canonical form, value by value.
-use Rattle.std.proofs.Common.{◌≡◌, ℕ, zero, suc, ◌+◌, ◌-◌, ◌*◌, ◌<◌, ◌≤◌, ◌^◌, Bool, true, false, cond, eqb, List, [], ◌∷◌, ◌++◌, length, take, drop, Option, Some, None, refl, sym, ap, subst, ◌∙◌, arith}
-use Rattle.std.specs.Prelude.{IsTrue, ◌↔◌, ◌&&◌, ◌||◌, not, Result, Ok, Err, IfOk, option_to_list, MatchOption}
-use Rattle.std.specs.List.{AllByRecursion}
+use Rattle.std.proofs.Common.{◌≡◌, ℕ, zero, suc, ◌+◌, ◌-◌, ◌<◌, ◌≤◌, Bool, true, false, cond, eqb, List, [], ◌∷◌, ◌++◌, length, take, drop, Option, Some, None, refl, sym, ap, subst, ◌∙◌, arith}
+use Rattle.std.specs.Prelude.{IsTrue, ◌↔◌, ◌&&◌, ◌||◌, not, Result, Ok, Err, IfOk}
 use Rattle.std.proofs.lemmas.Bool.{eqb-true}
 use Rattle.std.proofs.lemmas.List.{length-drop, append-nil, take_at}
 use Rattle.json_exact.specs.declared.out_of_memory.OutOfMemory.{OutOfMemory}
 use Rattle.json_exact.specs.Parsed.{IsInRange}
 use Rattle.json_model.specs.Decimal.{Decimal}
-use Rattle.json_model.specs.Tree.{Scalar, null, boolean, number, string, Tree, scalar, array, object, Elements, Members}
+use Rattle.json_model.specs.Tree.{Scalar, null, boolean, number, string, Tree, scalar, array, object, Elements}
 use Rattle.jsonb_layout.specs.Layout.{Item, pad}
 use Rattle.jsonb_layout.specs.Options.{◌>>=◌}
 use Rattle.jsonb_layout.specs.declared.form.Form.TheVariants.{Array, Object}
 use Rattle.jsonb_layout.specs.Seats.{Seat, is_padded, own_bytes}
-use Rattle.jsonb_layout.specs.inner.Reading.{Place, size, item_at, keys_at, numeric_of, opened}
+use Rattle.jsonb_layout.specs.inner.Reading.{Place, size, item_at, numeric_of, opened}
 use Rattle.jsonb_layout.specs.inner.SeatReading.{seat_at, or_no_seats, seats_at}
-use Rattle.jsonb_layout.specs.inner.Trees.{read, elements_by, members}
+use Rattle.jsonb_layout.specs.inner.Trees.{read, members}
 use Rattle.jsonb_layout.proofs.Sizes.{item_size, keys_size, opened_size}
 use Rattle.jsonb_layout.proofs.Tools.{IsBytes, some_is, some}
-use Rattle.jsonb_encode.specs.Canonical.{SeatIsCanonical, HasCanonicalBytes}
+use Rattle.jsonb_encode.specs.Canonical.{SeatIsCanonical, HasCanonicalBytes, AllHaveCanonicalBytes}
 use Rattle.jsonb_encode.specs.Encoded.{canonical}
 use Rattle.jsonb_encode.specs.Number.{numeric}
 use Rattle.jsonb_encode.specs.declared.number_form.NumericForm.TheVariants.{Short}
@@ -26,7 +25,7 @@ use Rattle.jsonb_encode.proofs.CanonicalSeats.{container_seat, elements_are_all,
 use Rattle.jsonb.specs.Found.{both, keys_found, elements_found, members_found}
 use Rattle.jsonb.specs.Nodes.{node_tree}
 use Rattle.jsonb.specs.Seated.{node_seat, seats_left}
-use Rattle.jsonb.specs.inner.Canonical.{AllHaveCanonicalBytes, IsLeftCanonical, AreLeftCanonical, seats_weight, cursor_weight, pending_weight, Looked, Advanced}
+use Rattle.jsonb.specs.inner.Canonical.{IsLeftCanonical, AreLeftCanonical, seats_weight, cursor_weight, pending_weight, Looked, Advanced}
 use Rattle.jsonb.specs.inner.Values.{kind_number, value_of, or_null, is_clean, IsJsonTree, array_at, object_at, skip}
 use Rattle.jsonb.specs.declared.cursor.Cursor.{Cursor}
 use Rattle.jsonb.specs.declared.found.Found.{Found}
@@ -268,7 +267,8 @@ module _ (n : JsonbNode) (all old : List Cursor) (c : Cursor) (split : all ≡ o
   pub stops : (new : List Cursor) → Advanced c old new false → SeatIsCanonical (node_seat n) (node_tree n) → ⊥
   stops new h k = h (all_less old c (subst AreLeftCanonical split (left.0 ((node_canonical n).1 k)))).1
 
-module _ (n : JsonbNode) (all old : List Cursor) (c : Cursor) (split : all ≡ old ++ c ∷ []) (left : IsLeft n all) (new : List Cursor) (can : Bool) where
+module _ (n : JsonbNode) (all old : List Cursor) (c : Cursor) (split : all ≡ old ++ c ∷ []) (left : IsLeft n all) (new : List Cursor)
+    (can : Bool) where
   -- the same, by the answer
   pub goes_on_by : can ≡ true → Advanced c old new can → IsLeft n new
   goes_on_by e h = goes_on n all old c split left new (subst (Advanced c old new) e h)

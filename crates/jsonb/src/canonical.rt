@@ -1,16 +1,16 @@
-//! Whether a value stands as PostgreSQL stores it, with each number in the form `Short`.
+//! Whether the bytes of a value are canonical: whether each number in it has the form `Short`.
 //!
-//! The layout leaves a choice in the form of numbers alone. What is left of a container is put off while one inside it is looked
-//! at, so memory is taken for the nesting, and no stack.
+//! The layout leaves no other choice. What is left of a container is put off while one inside it is looked at, so memory is taken
+//! for the nesting, and no stack.
 
 ghost use Rattle.std.specs.Prelude.{◌≡◌, ◌+◌, ◌<◌, ◌≤◌, ◌^◌, ◌∷◌, ◌++◌, [], length, IfOk, OnOk, IsTrue, ◌↔◌, Some};
-ghost use Rattle.jsonb_encode.specs.Canonical.{SeatIsCanonical, HasCanonicalBytes};
+ghost use Rattle.jsonb_encode.specs.Canonical.{SeatIsCanonical, HasCanonicalBytes, AllHaveCanonicalBytes};
 ghost use Rattle.jsonb_layout.specs.inner.Reading.{Place};
 ghost use Rattle.jsonb_layout.specs.inner.SeatReading.{seats_at};
 ghost use Rattle.jsonb_layout.specs.inner.Trees.{read};
 ghost use Rattle.jsonb.specs.Nodes.{node_tree};
 ghost use Rattle.jsonb.specs.Seated.{node_seat, seats_left};
-ghost use Rattle.jsonb.specs.inner.Canonical.{AllHaveCanonicalBytes, seats_weight, Looked, Advanced};
+ghost use Rattle.jsonb.specs.inner.Canonical.{seats_weight, Looked, Advanced};
 ghost use Rattle.jsonb.specs.inner.Values.{IsJsonTree, object_at, skip};
 ghost use Rattle.jsonb.specs.inner.Views.{place};
 
@@ -20,27 +20,33 @@ use crate::kind::Kind;
 use crate::node::JsonbNode;
 use crate::number::JsonbNumber;
 use crate::walk::pass;
-use json_exact::{OutOfMemory, Value, laws};
+use json_exact::{OutOfMemory, Value};
 use json_traits::JsonNumber;
-use jsonb_encode::encode;
+use jsonb_encode::laws::numbers_are_narrow_and_in_range;
+use jsonb_encode::{EncodeError, encode};
 use jsonb_layout::Form;
 use std::alloc::Global;
 
 /// Where the bytes of a number begin that is a root scalar: behind the header word and the entry word.
 const NUMBER_BEGIN: usize = 8;
 
+/// Want of memory, where no other error comes.
+fn want_of_memory(error: EncodeError) -> OutOfMemory
+    requires { error ≡ EncodeError.OutOfMemory }
+{
+    let _memory = error;
+    OutOfMemory
+}
+
 /// Whether a number stands in the form `Short`: whether its bytes are those that are written of it.
 fn stands_short(alloc: Global, number: JsonbNumber<'_>) -> Result<bool, OutOfMemory>
     ensures { IfOk result (λ yes. IsTrue yes ↔ HasCanonicalBytes (record { at = 0; kind = 1; bytes = number.entry.bytes.now })) }
 {
     let exact = number.to_number();
-    let decimal = exact.decimal();
-    let _few = exact.fraction_digits();
-    laws::decimals_are_within_limits(&decimal);
+    numbers_are_narrow_and_in_range(&exact);
     match encode(alloc, &Value::Number(exact)) {
         Ok(written) => Ok(&written[NUMBER_BEGIN..] == number.bytes),
-        // A number is within the limits, so that memory alone can be wanted.
-        Err(_) => Err(OutOfMemory),
+        Err(error) => Err(want_of_memory(error)),
     }
 }
 
@@ -128,11 +134,12 @@ fn advance<'a>(
     look(alloc, value, pending)
 }
 
-/// Whether a value stands in its slice as PostgreSQL stores it: whether each number in it has the bytes that the form `Short`
-/// writes. Of the root it says that the slice is the canonical bytes of its tree.
+/// Whether the bytes of a value are canonical: whether each number in it has the bytes that the form `Short` writes. Of the root it
+/// says that the slice is the canonical bytes of its tree. These are the bytes that PostgreSQL stores, where it takes the value: it
+/// refuses a string or a key with the character NUL.
 ///
-/// For example the number 1 stands so where it has a size word and the short header, and not where it has the long header or a
-/// size byte. `0.00` and `0` have different canonical bytes.
+/// For example the number 1 is canonical where it has a size word and the short header. It is not where it has the long header or
+/// a size byte. `0.00` and `0` have different canonical bytes.
 ///
 /// It takes memory for the nesting, and for one number at a time, and no stack.
 pub fn is_canonical(alloc: Global, node: &JsonbNode<'_>) -> Result<bool, OutOfMemory>

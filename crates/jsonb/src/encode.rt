@@ -1,7 +1,12 @@
-//! Bytes that are made, and bytes of text that are read.
+//! Makes the bytes of JSON values, and tells whether the bytes of a value are canonical.
 //!
-//! The bytes of values and numbers are made in the crate `jsonb_encode`, whose names stand here too. Beside them stand what
-//! lays out words unchecked, what nests arrays, the reader of hex text, and whether a value stands in its canonical form.
+//! For example [`encode`] gives the bytes of a value in memory, and [`is_canonical`] says yes of what `Jsonb::root` reads from
+//! them. Most of these calls are those of the crate `jsonb_encode`. This crate adds four:
+//!
+//! - [`is_canonical`] tells whether the bytes of a node are the ones that [`encode`] writes.
+//! - [`assemble`] puts a header word, entry words and a payload together. It checks none of them.
+//! - [`encode_nested_arrays`] gives the bytes of arrays in arrays, to a depth.
+//! - [`decode_hex`] reads the bytes that hex text writes. [`to_hex`] writes them.
 
 mod container;
 mod hex_text;

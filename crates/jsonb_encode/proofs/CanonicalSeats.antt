@@ -1,7 +1,6 @@
 -- A container is canonical exactly where the values in it are.
 use Rattle.std.proofs.Common.{◌≡◌, ℕ, suc, ◌+◌, ◌^◌, ◌<◌, Bool, true, false, cond, List, [], ◌∷◌, ◌++◌, length, map, drop, Some, None, refl, sym, ap, subst, ◌∙◌, arith}
 use Rattle.std.specs.Prelude.{IsTrue, ◌↔◌}
-use Rattle.std.specs.List.{AllByRecursion}
 use Rattle.std.proofs.lemmas.Bool.{eq-eqb, ne_eqb}
 use Rattle.std.proofs.lemmas.List.{length-append, length-replicate, length-map, drop_at, append-nil}
 use Rattle.json_model.specs.Decimal.{Decimal}
@@ -27,7 +26,7 @@ use Rattle.jsonb_layout.proofs.Runs.{Run, Run-split, Run-tail, after, item_again
 use Rattle.jsonb_layout.proofs.Scalars.{scalar_again, unpadded_again}
 use Rattle.jsonb_layout.proofs.SeatRuns.{seats_step}
 use Rattle.jsonb_layout.proofs.Tools.{IsBytes, some_is}
-use Rattle.jsonb_encode.specs.Canonical.{IsCanonicalItem, AreCanonicalElements, AreCanonicalValues, IsCanonical, SeatIsCanonical, HasCanonicalBytes}
+use Rattle.jsonb_encode.specs.Canonical.{IsCanonicalItem, AreCanonicalElements, AreCanonicalValues, IsCanonical, SeatIsCanonical, HasCanonicalBytes, AllHaveCanonicalBytes}
 use Rattle.jsonb_encode.specs.Encoded.{encoded, canonical}
 use Rattle.jsonb_encode.specs.Number.{numeric}
 use Rattle.jsonb_encode.specs.declared.number_form.NumericForm.TheVariants.{Short}
@@ -104,9 +103,6 @@ in_place_one u at x s t h =
     subst (λ (v : Tree). IsCanonicalItem v at x) same c
 
 -- ---- the values of a run
-
-abbrev pub AllHaveCanonicalBytes : List Seat → Type 0
-AllHaveCanonicalBytes cs = AllByRecursion HasCanonicalBytes cs
 
 no_seats : (s : ℕ) (p : Place) → seats_at s 0 p ≡ []
 unfolding seats_at

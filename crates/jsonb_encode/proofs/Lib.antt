@@ -10,8 +10,10 @@ pub mod NumberStands
 pub mod Numerals
 pub mod TreeStands
 pub mod RawKeys
+pub mod InMemory
 pub mod ContentsLaws
 pub mod TextBytes
 pub mod Canonical
 pub mod CanonicalValues
 pub mod CanonicalSeats
+pub mod StoredHeaders

@@ -170,14 +170,15 @@ closed f count n xs kind base mid piece old new start place word e p lt open_is 
 }
 
 -- at first no item is written
-pub opened_none : (f : Form) (count n : ℕ) (base old : List ℕ) (flag : ℕ) → flag ≡ flags f → old ≡ base ++ to_le_bytes w32 (flag * 2 ^ 28 + count)
+pub opened_none : (f : Form) (count n : ℕ) (base old : List ℕ) (flag : ℕ) → flag ≡ flags f * 2 ^ 28
+    → old ≡ base ++ to_le_bytes w32 (flag + count)
     → old ++ replicate (4 * n) 0 ≡ base ++ opened f count n []
 unfolding opened
 opened_none f count n base old flag e h =
     let w = to_le_bytes w32 (flags f * 2 ^ 28 + count) in
     let z : List ℕ = replicate (4 * n) 0 in
     let m : n ≡ n - 0 = omega arith in
-    ap (λ (xs : List ℕ). xs ++ z) (h ∙ ap (λ (k : ℕ). base ++ to_le_bytes w32 (k * 2 ^ 28 + count)) e)
+    ap (λ (xs : List ℕ). xs ++ z) (h ∙ ap (λ (k : ℕ). base ++ to_le_bytes w32 (k + count)) e)
     ∙ append_assoc base w z
     ∙ ap (λ (xs : List ℕ). base ++ (w ++ xs)) (sym (append-nil z))
     ∙ ap (λ (k : ℕ). base ++ (w ++ (replicate (4 * k) 0 ++ []))) m

@@ -8,7 +8,7 @@ use Rattle.json_model.specs.Tree.{Tree, scalar, null, array, object, Elements, n
 use Rattle.jsonb_layout.specs.Layout.{Item, Laid}
 use Rattle.jsonb_layout.specs.Stands.{IsItem, AreElements, Stands}
 use Rattle.jsonb_layout.specs.declared.form.Form.TheVariants.{Array}
-use Rattle.jsonb_encode.specs.Children.{child_item, child_items, IsContainer, AreContainers}
+use Rattle.jsonb_encode.specs.Children.{child_item, child_items, StandsAsContainer, AreContainers}
 use Rattle.jsonb_encode.specs.Encoded.{container, item, encoded, canonical}
 use Rattle.jsonb_encode.specs.Limits.{IsSmall, IsWithinLimits}
 use Rattle.jsonb_encode.specs.declared.contents.Contents.TheVariants.{Containers, KeyAndNull}
@@ -94,10 +94,10 @@ children_laid form cs b h =
       bytes = s.bytes ∙ ap (λ (xs : List Item). container Array (length cs.now) xs) e;
     }
 
-child_stands : (t : Tree) (c : List ℕ) (at : ℕ) → IsContainer t c → IsItem t at (child_item c at)
-child_stands (scalar s) c at h = absurd h
-child_stands (array ts) c at h = (refl, (c, refl, h))
-child_stands (object ms) c at h = (refl, (c, refl, h))
+child_stands : (t : Tree) (c : List ℕ) (at : ℕ) → StandsAsContainer t c → IsItem t at (child_item c at)
+child_stands (scalar s) c at h = absurd (h.1 s refl)
+child_stands (array ts) c at h = (refl, (c, refl, h.0))
+child_stands (object ms) c at h = (refl, (c, refl, h.0))
 
 children_stand : (ts : Elements) (cs : List (List ℕ)) (at : ℕ) → AreContainers ts cs → AreElements ts at (child_items cs at)
 children_stand no_elements [] at h = tt

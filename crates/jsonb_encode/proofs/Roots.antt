@@ -1,6 +1,7 @@
 -- A value as the root of a slice.
 use Rattle.std.proofs.Common.{◌≡◌, ℕ, ◌⊎◌, Bool, true, false, List, [], ◌∷◌, ◌++◌, Result, Ok, Err, refl, sym, ap, subst, ◌∙◌, arith, inl, inr}
-use Rattle.std.specs.Prelude.{IfOk, IfErr, ◌&&◌, ◌↔◌}
+use Rattle.std.specs.Prelude.{IfOk, IfErr, ◌↔◌}
+use Rattle.std.proofs.lemmas.Bool.{and_from}
 use Rattle.std.proofs.lemmas.Result.{IfOk-weaker, IfErr-weaker}
 use Rattle.json_model.specs.Tree.{Scalar, null, boolean, number, string, Tree, scalar, array, object, Elements, no_elements, element, Members, no_members, member}
 use Rattle.std.proofs.lemmas.List.{length-append}
@@ -85,9 +86,6 @@ scalar_always f (boolean b) h = refl
 scalar_always f (number d) h = h d
 scalar_always f (string s) h = refl
 
-both : (a b : Bool) → a ≡ true → b ≡ true → (a && b) ≡ true
-both a b e h = rw (e, h) refl
-
 mutual
   always : (f : NumericForm) (t : Tree) → ((d : Decimal) → fits f d ≡ true) → all_fit f t ≡ true
   always f (scalar s) h = scalar_always f s h
@@ -96,15 +94,19 @@ mutual
 
   elements_always : (f : NumericForm) (ts : Elements) → ((d : Decimal) → fits f d ≡ true) → elements_fit f ts ≡ true
   elements_always f no_elements h = refl
-  elements_always f (element t ts) h = both (all_fit f t) (elements_fit f ts) (always f t h) (elements_always f ts h)
+  elements_always f (element t ts) h = and_from (all_fit f t) (elements_fit f ts) (always f t h) (elements_always f ts h)
 
   members_always : (f : NumericForm) (ms : Members) → ((d : Decimal) → fits f d ≡ true) → members_fit f ms ≡ true
   members_always f no_members h = refl
-  members_always f (member k t ms) h = both (all_fit f t) (members_fit f ms) (always f t h) (members_always f ms h)
+  members_always f (member k t ms) h = and_from (all_fit f t) (members_fit f ms) (always f t h) (members_always f ms h)
 
 pub short_always : (t : Tree) → all_fit Short t ≡ true
 unfolding fits
 short_always t = always Short t (λ d. refl)
+
+pub short_members : (ms : Members) → members_fit Short ms ≡ true
+unfolding fits
+short_members ms = members_always Short ms (λ d. refl)
 
 pub long_always : (t : Tree) → all_fit Long t ≡ true
 unfolding fits

@@ -20,7 +20,8 @@ use Rattle.jsonb_encode.specs.declared.number_form.NumericForm.TheVariants.{Shor
 
 -- ---- kinds and counts
 
-scalar_kind : (f : NumericForm) (s : Scalar) (at : ℕ) → (scalar_item f s at).kind < 8
+-- each item that is written has a kind below 8
+pub scalar_kind : (f : NumericForm) (s : Scalar) (at : ℕ) → (scalar_item f s at).kind < 8
 scalar_kind f null at = omega arith
 scalar_kind f (boolean true) at = omega arith
 scalar_kind f (boolean false) at = omega arith
@@ -47,17 +48,18 @@ kinds_behind : (ks : List (List ℕ)) (xs : List Item) → AllByRecursion (λ x.
 kinds_behind [] xs h = h
 kinds_behind (k ∷ ks) xs h = (omega arith, kinds_behind ks xs h)
 
-element_counts : (f : NumericForm) (ts : Elements) (at : ℕ) → length (element_items f ts at) ≡ count_elements ts
+-- as many items as trees are written
+pub element_counts : (f : NumericForm) (ts : Elements) (at : ℕ) → length (element_items f ts at) ≡ count_elements ts
 unfolding item
 element_counts f no_elements at = refl
 element_counts f (element t ts) at = omega (arith, element_counts f ts (at + length (item f t at).piece))
 
-value_counts : (f : NumericForm) (ms : Members) (at : ℕ) → length (value_items f ms at) ≡ count_members ms
+pub value_counts : (f : NumericForm) (ms : Members) (at : ℕ) → length (value_items f ms at) ≡ count_members ms
 unfolding item
 value_counts f no_members at = refl
 value_counts f (member k t ms) at = omega (arith, value_counts f ms (at + length (item f t at).piece))
 
-key_counts : (ms : Members) → length (key_items ms) ≡ count_members ms
+pub key_counts : (ms : Members) → length (key_items ms) ≡ count_members ms
 key_counts no_members = refl
 key_counts (member k t ms) = omega (arith, key_counts ms)
 
@@ -69,7 +71,8 @@ scalar_stands f (boolean b) at h fit = (refl, refl)
 scalar_stands f (string s) at h fit = (refl, refl)
 scalar_stands f (number d) at h fit = (refl, (numeric f d, refl, number_stands f d h fit))
 
-array_laid : (f : NumericForm) (ts : Elements) → AreSmall f (array ts) → Laid (container Array (count_elements ts) (array_items f ts))
+-- the bytes of an array, and of an object, are laid out of its items
+pub array_laid : (f : NumericForm) (ts : Elements) → AreSmall f (array ts) → Laid (container Array (count_elements ts) (array_items f ts))
     Array (array_items f ts)
 array_laid f ts small = record {
   count = count_elements ts;
@@ -80,7 +83,7 @@ array_laid f ts small = record {
   bytes = refl;
 }
 
-object_laid : (f : NumericForm) (ms : Members) → AreSmall f (object ms) → Laid (container Object (count_members ms) (object_items f ms))
+pub object_laid : (f : NumericForm) (ms : Members) → AreSmall f (object ms) → Laid (container Object (count_members ms) (object_items f ms))
     Object (object_items f ms)
 object_laid f ms small = record {
   count = count_members ms;

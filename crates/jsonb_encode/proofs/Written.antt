@@ -64,7 +64,7 @@ pub keys_are : (ps : Pairs) → key_items (members_from ps) ≡ pair_keys ps
 keys_are [] = refl
 keys_are (p ∷ ps) = ap (λ (ks : List Item). key_item p.0 ∷ ks) (keys_are ps)
 
-names_are : (ps : Pairs) → keys (members_from ps) ≡ map (λ p. p.0) ps
+pub names_are : (ps : Pairs) → keys (members_from ps) ≡ map (λ p. p.0) ps
 names_are [] = refl
 names_are (p ∷ ps) = ap (λ (ks : List (List ℕ)). p.0 ∷ ks) (names_are ps)
 

@@ -2,6 +2,7 @@
 -- PostgreSQL stores (`numeric.c`: `make_result`). The grammar allows a number other forms too, and nothing else any choice.
 -- A tree has canonical bytes where its keys rise, each number is in range, and each container is within the limits of the layout.
 use Rattle.std.specs.Prelude.{◌≡◌, ℕ, ◌+◌, List, [], ◌∷◌, length, if◌then◌else◌}
+use Rattle.std.specs.List.{AllByRecursion}
 use Rattle.json_model.specs.Decimal.{Decimal}
 use Rattle.json_model.specs.Tree.{Scalar, null, boolean, number, string, Tree, scalar, array, object, Elements, no_elements, element, Members, no_members, member, keys}
 use Rattle.json_exact.specs.Parsed.{IsInRange}
@@ -59,3 +60,6 @@ SeatIsCanonical s t = IsCanonicalItem t 0 (record { kind = s.kind; piece = s.byt
 -- They are canonical for some tree, which is the one that they stand for.
 abbrev pub HasCanonicalBytes : Seat → Type 0
 HasCanonicalBytes s = (t : Tree) × SeatIsCanonical s t
+
+abbrev pub AllHaveCanonicalBytes : List Seat → Type 0
+AllHaveCanonicalBytes cs = AllByRecursion HasCanonicalBytes cs

@@ -1,6 +1,6 @@
 -- An array whose elements are containers that are given by their bytes (PostgreSQL, `jsonb.h`).
-use Rattle.std.specs.Prelude.{ℕ, ◌+◌, List, [], ◌∷◌, ◌++◌, length}
-use Rattle.json_model.specs.Tree.{Tree, scalar, array, object, Elements, no_elements, element}
+use Rattle.std.specs.Prelude.{◌≡◌, ℕ, ◌+◌, List, [], ◌∷◌, ◌++◌, length}
+use Rattle.json_model.specs.Tree.{Scalar, Tree, scalar, Elements, no_elements, element}
 use Rattle.jsonb_layout.specs.Layout.{Item}
 use Rattle.jsonb_layout.specs.Stands.{padding, Stands}
 
@@ -13,15 +13,13 @@ abbrev pub child_items : List (List ℕ) → ℕ → List Item
 child_items [] at = []
 child_items (c ∷ cs) at = child_item c at ∷ child_items cs (at + length (child_item c at).piece)
 
--- the bytes of a container stand for a tree, which is an array or an object
-abbrev pub IsContainer : Tree → List ℕ → Type 0
-IsContainer (scalar s) c = ⊥
-IsContainer (array ts) c = Stands c (array ts)
-IsContainer (object ms) c = Stands c (object ms)
+-- the bytes stand for a tree that is an array or an object, and no scalar
+abbrev pub StandsAsContainer : Tree → List ℕ → Type 0
+StandsAsContainer t c = Stands c t × ((s : Scalar) → t ≡ scalar s → ⊥)
 
 -- containers stand for trees, each for the one of its number
 abbrev pub AreContainers : Elements → List (List ℕ) → Type 0
 AreContainers no_elements [] = Unit {0}
 AreContainers no_elements (c ∷ cs) = ⊥
 AreContainers (element t ts) [] = ⊥
-AreContainers (element t ts) (c ∷ cs) = IsContainer t c × AreContainers ts cs
+AreContainers (element t ts) (c ∷ cs) = StandsAsContainer t c × AreContainers ts cs

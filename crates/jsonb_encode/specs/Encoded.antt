@@ -1,5 +1,5 @@
 -- The bytes of a tree: the layout's containers and items (PostgreSQL, `jsonb.h`), with numbers in one form. In the form `Short`
--- they are what PostgreSQL stores, and the canonical bytes of the tree.
+-- they are the canonical bytes of the tree, which PostgreSQL stores where it takes the tree: it refuses a text with the character NUL.
 use Rattle.std.specs.Prelude.{ℕ, ◌+◌, ◌*◌, ◌^◌, List, [], ◌∷◌, ◌++◌, length, map, if◌then◌else◌}
 use Rattle.json_model.specs.Tree.{Scalar, null, boolean, number, string, Tree, scalar, array, object, Elements, no_elements, element, Members, no_members, member, keys}
 use Rattle.jsonb_layout.specs.Layout.{Item, pieces, entries, words, flags}
@@ -66,6 +66,6 @@ encoded f (scalar s) = container Lone 1 (scalar_item f s 0 ∷ [])
 encoded f (array ts) = container Array (count_elements ts) (array_items f ts)
 encoded f (object ms) = container Object (count_members ms) (object_items f ms)
 
--- the one byte string that PostgreSQL stores for a tree
+-- the one byte string of a tree's canonical form
 abbrev pub canonical : Tree → List ℕ
 canonical t = encoded Short t

@@ -1,4 +1,6 @@
 -- What a user need not believe: words for the code.
 pub mod Contents
+pub mod InMemory
+pub mod Varlena
 pub mod Wide
 pub mod Writing

@@ -53,8 +53,8 @@ pub fn encode_with(alloc: Global, value: &Value, form: NumericForm) -> Result<Ve
     }
 }
 
-/// The bytes that PostgreSQL stores for a value: the one byte string of its canonical form. They stand for exactly the value's
-/// tree, written fraction digits included.
+/// The one byte string of a value's canonical form. They stand for exactly the value's tree, written fraction digits included. They
+/// are the bytes that PostgreSQL stores, where it takes the value: it refuses a string or a key with the character NUL.
 ///
 /// `TooLarge` comes only where some container would have a count or a payload of 2^28 or more, and no other answer but want of
 /// memory comes then.

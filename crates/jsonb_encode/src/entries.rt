@@ -13,16 +13,26 @@ use jsonb_layout::Form;
 /// A count, and the bytes of a payload, are below this.
 pub const LIMIT: usize = 0x1000_0000;
 
-const HAS_OFFSET: u32 = 0x8000_0000;
+/// The flag of a header that marks an array of one item as a root scalar.
+pub const JB_FSCALAR: u32 = 0x1000_0000;
 
-/// The number in a header that says what the container is.
+/// The flag of an array's header.
+pub const JB_FARRAY: u32 = 0x4000_0000;
+
+/// The flag of an object's header.
+const JB_FOBJECT: u32 = 0x2000_0000;
+
+/// The bit of an entry word that says that the word holds the sum of all lengths so far.
+pub const JENTRY_HAS_OFF: u32 = 0x8000_0000;
+
+/// The flags of a header, which say what the container is.
 fn flags(form: Form) -> u32
-    ensures { result ≡ flags form }
+    ensures { result ≡ flags form * 2 ^ 28 }
 {
     match form {
-        Form::Array => 4,
-        Form::Object => 2,
-        Form::Lone => 5,
+        Form::Array => JB_FARRAY,
+        Form::Object => JB_FOBJECT,
+        Form::Lone => JB_FARRAY + JB_FSCALAR,
     }
 }
 
@@ -37,7 +47,7 @@ pub fn open_container(
     ensures ok { IfOk result (λ _. IsOpen form count items [] bytes.old.items bytes.new.items) }
     ensures err { IfErr result (λ e. e ≡ EncodeError.OutOfMemory) }
 {
-    push_word(bytes, flags(form) * 0x1000_0000 + count as u32)?;
+    push_word(bytes, flags(form) + count as u32)?;
     push_empty_words(bytes, items)
 }
 
@@ -48,7 +58,7 @@ fn entry_word(index: usize, kind: Kind, upto: usize, length: usize) -> u32
     ensures { result ≡ entry_word index (kind_number kind) upto length }
 {
     if index.is_multiple_of(32) {
-        HAS_OFFSET + kind.number() * 0x1000_0000 + upto as u32
+        JENTRY_HAS_OFF + kind.number() * 0x1000_0000 + upto as u32
     } else {
         kind.number() * 0x1000_0000 + length as u32
     }

@@ -1,9 +1,11 @@
-//! Laws of the bytes of trees. The functions do nothing: their contracts are what they are for.
+//! Laws of the bytes of trees. The functions answer nothing: their contracts are what they are for.
 
 ghost use Rattle.std.specs.Prelude.{◌≡◌, ◌↔◌, ℕ, List, IsTrue};
 ghost use Rattle.json_model.specs.Decimal.{Decimal, IsNarrow};
+ghost use Rattle.json_model.specs.Json.{HasNarrow};
 ghost use Rattle.json_model.specs.Tree.{Tree};
 ghost use Rattle.json_exact.specs.Parsed.{IsInRange};
+ghost use Rattle.json_exact.specs.Trees.{tree};
 ghost use Rattle.jsonb_layout.specs.Numeric.{Numeric};
 ghost use Rattle.jsonb_layout.specs.Stands.{Stands};
 ghost use Rattle.jsonb_encode.specs.Canonical.{IsCanonical};
@@ -12,6 +14,28 @@ ghost use Rattle.jsonb_encode.specs.Limits.{all_fit, IsWithinLimits, IsOfValue};
 ghost use Rattle.jsonb_encode.specs.Number.{header, is_short, numeric, fits};
 ghost use Rattle.jsonb_encode.specs.declared.number_form.NumericForm.{NumericForm};
 ghost use Rattle.jsonb_encode.specs.declared.number_form.NumericForm.TheVariants.{Short, ShortVarlena};
+
+use crate::in_memory::pass_over;
+use json_exact::{Number, Value};
+
+/// Each number in memory is narrow and in range.
+pub fn numbers_are_narrow_and_in_range(number: &Number)
+    ensures narrow { IsNarrow number.now }
+    ensures in_range { IsInRange number.now }
+{
+    let decimal = number.decimal();
+    let _few = number.fraction_digits();
+    json_exact::laws::decimals_are_within_limits(&decimal);
+}
+
+/// In the tree of each value the keys rise at each level and the numbers are in range, as the laws below ask of a tree. Its numbers
+/// are narrow too. The law passes over the value once, by recursion as deep as it nests, and takes no memory.
+pub fn values_are_of_value(value: &Value)
+    ensures of_value { IsOfValue (tree value.now) }
+    ensures narrow { HasNarrow (tree value.now) }
+{
+    pass_over(value)
+}
 
 /// The bytes of a number in range, in a form that it has, stand for it in the layout's grammar, however many digits it has.
 pub fn numbers_stand()
@@ -46,7 +70,10 @@ pub fn canonical_bytes_stand()
     ensures { (t : Tree) (b : List ℕ) → IsCanonical b t → Stands b t }
 {}
 
-/// The tree of each value whose containers are within the limits has canonical bytes: those that `encode` gives.
+/// Where the keys of a tree rise at each level, its numbers are in range and its containers are within the limits, it has canonical
+/// bytes: those that `encode` gives for a value. No other tree has any.
 pub fn values_have_canonical_bytes()
-    ensures { (t : Tree) → IsOfValue t → IsWithinLimits Short t → IsCanonical (canonical t) t }
+    ensures some { (t : Tree) → IsOfValue t → IsWithinLimits Short t → IsCanonical (canonical t) t }
+    ensures only_of_value { (t : Tree) (b : List ℕ) → IsCanonical b t → IsOfValue t }
+    ensures only_within_limits { (t : Tree) (b : List ℕ) → IsCanonical b t → IsWithinLimits Short t }
 {}

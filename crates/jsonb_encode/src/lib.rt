@@ -1,8 +1,8 @@
 //! Bytes of PostgreSQL's `jsonb` that stand for a JSON value in memory, or for number literals of any number of digits.
 //!
-//! [`encode`] gives the bytes that PostgreSQL stores for a value: the one byte string of its canonical form. [`encode_with`] writes
-//! its numbers in one of three forms, a [`NumericForm`]. Both keep the fraction digits that are written: `1` and `1.0` have
-//! different bytes.
+//! [`encode`] gives the one byte string of a value's canonical form: the bytes that PostgreSQL stores, where it takes the value. It
+//! refuses a string or a key with the character NUL (U+0000), which has bytes here all the same. [`encode_with`] writes the numbers
+//! in one of three forms, a [`NumericForm`]. Both keep the fraction digits that are written: `1` and `1.0` have different bytes.
 //!
 //! ```text
 //! encode(alloc, &one_point_zero)?;                              // 01000050 08000090 20000000 8080 0100, in hex
@@ -27,8 +27,9 @@
 //! The writer goes from left to right into one buffer: it writes empty words for the items of a container, and sets each behind its
 //! piece. It takes memory for the bytes alone.
 //!
-//! What the bytes are is said in `specs/`: `Number` for a number in a form, `Encoded` for a tree, `Limits` for when a tree has
-//! bytes, `Literals` for which texts have, `Children` for an array of containers, `Varlena` for a stored value's header. [`laws`] says that they stand for what they are made of.
+//! What the bytes are is said in `specs/`: `Number` for a number in a form, `Encoded` for a tree, `Canonical` for which bytes are
+//! canonical for which tree, `Limits` for when a tree has bytes, `Literals` for which texts have, `Children` for an array of
+//! containers, `Varlena` for a stored value's header. [`laws`] says that they stand for what they are made of.
 #![tactic(auto)]
 
 mod buffer;
@@ -39,6 +40,7 @@ mod entries;
 mod error;
 mod fitting;
 mod hex_text;
+mod in_memory;
 mod kind;
 pub mod laws;
 mod number;
@@ -51,6 +53,7 @@ mod writer;
 
 pub use container::{encode_array_of, encode_raw_key_object};
 pub use encoding::{encode, encode_with};
+pub use entries::{JB_FARRAY, JB_FSCALAR, JENTRY_HAS_OFF};
 pub use error::EncodeError;
 pub use hex_text::to_hex;
 pub use number_form::NumericForm;
@@ -59,12 +62,3 @@ pub use text_encoding::{
     encode_numeric_text_array, encode_numeric_text_object, encode_numeric_text_scalar,
 };
 pub use varlena::{VarlenaError, strip_varlena};
-
-/// The flag of a header that marks an array of one item as a root scalar.
-pub const JB_FSCALAR: u32 = 0x1000_0000;
-
-/// The flags of an array's header.
-pub const JB_FARRAY: u32 = 0x4000_0000;
-
-/// The bit of an entry word that holds the sum of the lengths so far.
-pub const JENTRY_HAS_OFF: u32 = 0x8000_0000;

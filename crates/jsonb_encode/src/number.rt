@@ -10,8 +10,9 @@ ghost use Rattle.jsonb_encode.specs.inner.Writing.{lead, groups_down};
 
 use crate::buffer::{push_all, push_half, push_word};
 use crate::error::EncodeError;
+use crate::laws::numbers_are_narrow_and_in_range;
 use crate::number_form::NumericForm;
-use json_exact::{Decimal, Number, laws};
+use json_exact::{Decimal, Number};
 use jsonb_layout::Header;
 
 /// The groups of a decimal that are written: so many, from a place downwards.
@@ -97,8 +98,7 @@ pub fn is_short(header: Header) -> bool
 pub fn number_fits(number: &Number, form: NumericForm) -> bool
     ensures { result ≡ fits form number.now }
 {
-    let decimal = number.decimal();
-    laws::decimals_are_within_limits(&decimal);
+    numbers_are_narrow_and_in_range(number);
     match form {
         NumericForm::Short | NumericForm::Long => true,
         NumericForm::ShortVarlena => is_short(header_of(number)),

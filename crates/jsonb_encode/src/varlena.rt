@@ -1,7 +1,8 @@
 //! The header of a stored value.
 
 ghost use Rattle.std.specs.Prelude.{◌≡◌, Ok, Err, MatchResult};
-ghost use Rattle.jsonb_encode.specs.Varlena.{behind_header, stripped};
+ghost use Rattle.jsonb_encode.specs.Varlena.{IsStripped};
+ghost use Rattle.jsonb_encode.specs.inner.Varlena.{behind_header, stripped};
 
 use thiserror::Error;
 
@@ -31,14 +32,9 @@ fn behind_header(bytes: &[u8], header: usize, size: usize) -> Result<&[u8], Varl
     Ok(&bytes[header..size])
 }
 
-/// The bytes of a stored value behind its header, which has one byte or four. PostgreSQL keeps short values under a header of one
-/// byte. What follows the size is left out. It takes no memory.
-///
-/// `External` comes exactly where the first byte is 1. Else, `Compressed` comes exactly where the two low bits of the first byte are
-/// 10. `Short` comes exactly where the slice is empty, or where, else, the header is not whole, the size is less than the
-/// header's length, or the slice is shorter than the size.
-#[tactic(auto, unfolding(crate::specs::Varlena::stripped))]
-pub fn strip_varlena(bytes: &[u8]) -> Result<&[u8], VarlenaError>
+/// Looks at the first byte, and takes the header off.
+#[tactic(auto, unfolding(crate::specs::inner::Varlena::stripped))]
+fn read_stored(bytes: &[u8]) -> Result<&[u8], VarlenaError>
     ensures { MatchResult result (λ rest. stripped bytes.now ≡ Ok rest.now) (λ e. stripped bytes.now ≡ Err e) }
 {
     let Some(first) = bytes.first() else {
@@ -58,4 +54,16 @@ pub fn strip_varlena(bytes: &[u8]) -> Result<&[u8], VarlenaError>
     }
     let word = u32::from_le_bytes([bytes[0], bytes[1], bytes[2], bytes[3]]);
     behind_header(bytes, 4, (word / 4) as usize)
+}
+
+/// The bytes of a stored value behind its header, which has one byte or four. PostgreSQL keeps short values under a header of one
+/// byte. What follows the size is left out. It takes no memory.
+///
+/// `External` comes exactly where the first byte is 1. `Compressed` comes exactly where the two lowest bits of the first byte are
+/// 10. `Short` comes exactly where the slice is empty, or where, else, the size is less than the header's length, or the slice is
+/// shorter than the size or the header.
+pub fn strip_varlena(bytes: &[u8]) -> Result<&[u8], VarlenaError>
+    ensures { MatchResult result (λ value. IsStripped bytes.now (Ok value.now)) (λ e. IsStripped bytes.now (Err e)) }
+{
+    read_stored(bytes)
 }

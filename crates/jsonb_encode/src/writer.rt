@@ -13,9 +13,10 @@ use crate::buffer::{push_all, push_padding};
 use crate::entries::{LIMIT, close_item, open_container};
 use crate::error::EncodeError;
 use crate::kind::Kind;
+use crate::laws::numbers_are_narrow_and_in_range;
 use crate::number::push_number;
 use crate::number_form::NumericForm;
-use json_exact::{Map, Number, Value, laws};
+use json_exact::{Map, Number, Value};
 use jsonb_layout::Form;
 
 /// Writes a number, and learns that it is in range.
@@ -25,9 +26,7 @@ fn write_number(bytes: &mut Vec<u8>, number: &Number, form: NumericForm) -> Resu
     ensures exact { IsInRange number.now }
     ensures err { IfErr result (λ e. e ≡ EncodeError.OutOfMemory) }
 {
-    let decimal = number.decimal();
-    let _few = number.fraction_digits();
-    laws::decimals_are_within_limits(&decimal);
+    numbers_are_narrow_and_in_range(number);
     push_number(bytes, number, form)
 }
 

@@ -2,12 +2,9 @@
 use Rattle.std.specs.Prelude.{ℕ, ◌+◌, ◌<◌, ◌≤◌, Bool, true, false, List, [], ◌∷◌, length, ◌↔◌}
 use Rattle.std.specs.List.{AllByRecursion}
 use Rattle.jsonb_layout.specs.Seats.{Seat}
-use Rattle.jsonb_encode.specs.Canonical.{HasCanonicalBytes}
+use Rattle.jsonb_encode.specs.Canonical.{HasCanonicalBytes, AllHaveCanonicalBytes}
 use Rattle.jsonb.specs.Seated.{seats_left}
 use Rattle.jsonb.specs.declared.cursor.Cursor.{Cursor}
-
-abbrev pub AllHaveCanonicalBytes : List Seat → Type 0
-AllHaveCanonicalBytes cs = AllByRecursion HasCanonicalBytes cs
 
 abbrev pub IsLeftCanonical : Cursor → Type 0
 IsLeftCanonical c = AllHaveCanonicalBytes (seats_left c)

@@ -6,15 +6,12 @@ ghost use Rattle.jsonb_layout.specs.Layout.{words};
 ghost use Rattle.jsonb_layout.specs.Stands.{Stands};
 ghost use Rattle.jsonb.specs.Nested.{nested_arrays, nested_bytes};
 
-use crate::encode::EncodeError;
 use json_exact::OutOfMemory;
+use jsonb_encode::{EncodeError, JB_FARRAY, JENTRY_HAS_OFF};
 use std::alloc::Global;
 
-const ARRAY: u32 = 0x4000_0000;
-
+// The kind of a container, in an entry word.
 const CONTAINER: u32 = 0x5000_0000;
-
-const HAS_OFFSET: u32 = 0x8000_0000;
 
 // 2^25 arrays of one element are the deepest whose payload is below 2^28 bytes.
 const MAX_DEPTH: usize = 1 << 25;
@@ -62,10 +59,10 @@ fn write_nested_arrays(alloc: Global, depth: usize) -> Result<Vec<u8>, OutOfMemo
     let mut bytes = Vec::new(alloc);
     for level in 0..depth {
         let inner = 8 * (depth - level) - 4;
-        push_word(&mut bytes, ARRAY + 1)?;
-        push_word(&mut bytes, HAS_OFFSET + CONTAINER + inner as u32)?;
+        push_word(&mut bytes, JB_FARRAY + 1)?;
+        push_word(&mut bytes, JENTRY_HAS_OFF + CONTAINER + inner as u32)?;
     }
-    push_word(&mut bytes, ARRAY)?;
+    push_word(&mut bytes, JB_FARRAY)?;
     Ok(bytes)
 }
 

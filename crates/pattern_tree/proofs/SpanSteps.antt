@@ -19,7 +19,7 @@ use Rattle.pattern_tree.specs.Below.{parts_below, all_below}
 use Rattle.pattern_tree.specs.Nodes.{span_at, mark_of, InOption, InPart, InOuter}
 use Rattle.pattern_tree.specs.Parts.{with_node, between_nodes, with_term, with_alternative, with_either, with_disjunction, with_last}
 use Rattle.pattern_tree.specs.Spans.{NodeStands, FitsShape, NodesStand, TermsStand, AlternativesStand, PartStands, OuterStands, ReaderStands}
-use Rattle.pattern_model.proofs.BoolLaws.{both, is_below}
+use Rattle.pattern_model.proofs.BoolLaws.{both, and_true, is_below}
 
 abbrev no_node : Node
 no_node = record { shape = shapes.Empty; span = record { start = 0; end = 0 } }
@@ -30,10 +30,6 @@ span_old ns ms i h = ap (λ z. z.span) (get_or-append ns ms no_node i h)
 
 pub span_new : (ns : List Node) (n : Node) → span_at (ns ++ (n ∷ [])) (length ns) ≡ n.span
 span_new ns n = ap (λ z. z.span) (get_or-append_seam ns n [] no_node)
-
-and_true : (a b : Bool) → a ≡ true → b ≡ true → a && b ≡ true
-and_true true b e h = h
-and_true false b e h = cc
 
 below_snoc : (k : ℕ) (ns : List Node) (n : Node) → all_below k ns ≡ true → parts_below (k + length ns) n.shape ≡ true →
     all_below k (ns ++ (n ∷ [])) ≡ true

@@ -77,8 +77,9 @@ fn escaped_atom(x: &str) -> Option<(Atom, &str)>
     }
 }
 
+/// The atom that a class's text begins with, and what follows it.
 #[tactic(auto, unfolding(pattern_model::specs::Classes::class_atom))]
-fn class_atom(x: &str) -> Option<(Atom, &str)>
+pub fn class_atom(x: &str) -> Option<(Atom, &str)>
     ensures value { class_atom (chars x.now)
         ≡ option_map (λ p. (atom_of p.0, chars p.1.now)) result }
     ensures len { IfSome result (λ p. length p.1.now < length x.now) }

@@ -32,6 +32,7 @@ mod escape;
 mod form;
 mod grammar;
 pub mod laws;
+pub mod lexer;
 mod members;
 mod node;
 mod number;

@@ -328,7 +328,7 @@ fn plain_token(
 /// The token that begins with `c`, and what follows it, in a source of `total` bytes. None where there is none, or a
 /// back-reference whose number no group has.
 #[tactic(auto, unfolding(pattern_model::specs::Tokens::token_from))]
-pub(crate) fn token_from(
+pub fn token_from(
     alloc: Global,
     wide: bool,
     total: usize,

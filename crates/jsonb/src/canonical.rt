@@ -27,7 +27,7 @@ use jsonb_encode::{EncodeError, encode};
 use jsonb_layout::Form;
 use std::alloc::Global;
 
-/// Where the bytes of a number begin that is a root scalar: behind the header word and the entry word.
+/// Where the bytes of a root scalar begin: behind the header word and the entry word.
 const NUMBER_BEGIN: usize = 8;
 
 /// Want of memory, where no other error comes.
@@ -135,13 +135,13 @@ fn advance<'a>(
 }
 
 /// Whether the bytes of a value are canonical: whether each number in it has the bytes that the form `Short` writes. Of the root it
-/// says that the slice is the canonical bytes of its tree. These are the bytes that PostgreSQL stores, where it takes the value: it
-/// refuses a string or a key with the character NUL.
+/// says that the slice is the canonical bytes of its tree. A database in UTF8 stores these bytes, where it takes the value:
+/// PostgreSQL refuses a string or a key with the character NUL.
 ///
 /// For example the number 1 is canonical where it has a size word and the short header. It is not where it has the long header or
 /// a size byte. `0.00` and `0` have different canonical bytes.
 ///
-/// It takes memory for the nesting, and for one number at a time, and no stack.
+/// By review, it takes memory for the nesting, and for one number at a time, and no stack.
 pub fn is_canonical(alloc: Global, node: &JsonbNode<'_>) -> Result<bool, OutOfMemory>
     ensures { IfOk result (λ yes. IsTrue yes ↔ SeatIsCanonical (node_seat node.now) (node_tree node.now)) }
 {

@@ -3,7 +3,7 @@
 //! For example [`encode`] gives the bytes of a value in memory, and [`is_canonical`] says yes of what `Jsonb::root` reads from
 //! them. Most of these calls are those of the crate `jsonb_encode`. This crate adds four:
 //!
-//! - [`is_canonical`] tells whether the bytes of a node are the ones that [`encode`] writes.
+//! - [`is_canonical`] tells whether each number in a node stands as [`encode`] writes it.
 //! - [`assemble`] puts a header word, entry words and a payload together. It checks none of them.
 //! - [`encode_nested_arrays`] gives the bytes of arrays in arrays, to a depth.
 //! - [`decode_hex`] reads the bytes that hex text writes. [`to_hex`] writes them.

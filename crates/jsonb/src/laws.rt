@@ -85,8 +85,8 @@ pub fn a_node_has_the_tree_of_its_place(root: &[u8], node: &JsonbNode<'_>)
     let _identity = node.identity();
 }
 
-/// A node that is the root of a slice is canonical for its tree exactly where the slice is, which then is the canonical bytes of
-/// its tree. `root` gives such a node, and `is_canonical` tells whether it is.
+/// The node of a whole slice is canonical for its tree exactly where the slice is. The slice then is the canonical bytes of the tree.
+/// `Jsonb::root` gives such a node, and `encode::is_canonical` tells whether the node is canonical.
 pub fn a_canonical_root_is_a_canonical_slice(root: &[u8], node: &JsonbNode<'_>)
     ensures slice { (t : Tree) → Stands root.now t → IsRoot root.now (node_seat node.now)
         → (SeatIsCanonical (node_seat node.now) (node_tree node.now) ↔ IsCanonical root.now t) }

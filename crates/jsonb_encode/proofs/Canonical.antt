@@ -14,7 +14,7 @@ use Rattle.jsonb_layout.specs.declared.form.Form.{Form}
 use Rattle.jsonb_layout.specs.declared.form.Form.TheVariants.{Array, Object, Lone}
 use Rattle.jsonb_encode.specs.Canonical.{IsCanonicalScalar, IsCanonicalItem, AreCanonicalElements, AreCanonicalValues, IsCanonical}
 use Rattle.jsonb_encode.specs.Encoded.{container, scalar_item, item, element_items, value_items, array_items, object_items, key_items, key_bytes, count_elements, count_members, encoded, canonical}
-use Rattle.jsonb_encode.specs.Limits.{AreSmall, MembersAreSmall, IsWithinLimits, ScalarIsExact, HasExactNumbers, MembersHaveExactNumbers, IsOfValue}
+use Rattle.jsonb_encode.specs.Limits.{AreSmall, MembersAreSmall, IsWithinLimits, ScalarIsExact, HasExactNumbers, MembersHaveExactNumbers, IsStorable}
 use Rattle.jsonb_encode.specs.Number.{numeric, fits}
 use Rattle.jsonb_encode.specs.declared.number_form.NumericForm.TheVariants.{Short}
 use Rattle.jsonb_encode.specs.inner.Writing.{AreGood}
@@ -190,7 +190,7 @@ mutual
       record { rise = (i.rise, g.rise); exact = (i.exact, g.exact); small = (i.small, g.small) }
 
 -- a tree that has canonical bytes is one of a value, within the limits
-pub canonical_sound : (t : Tree) (b : List ℕ) → IsCanonical b t → IsOfValue t × IsWithinLimits Short t
+pub canonical_sound : (t : Tree) (b : List ℕ) → IsCanonical b t → IsStorable t × IsWithinLimits Short t
 canonical_sound (scalar s) b (x, laid, h) = (
   record { rise = tt; exact = scalar_exact s 0 x h },
   let e = ap (λ (y : Item). length y.piece) (scalar_one s 0 x h) in omega (arith, laid.pieces_fit, length-append x.piece [], e),

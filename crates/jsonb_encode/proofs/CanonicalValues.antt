@@ -6,7 +6,7 @@ use Rattle.json_model.specs.Tree.{Scalar, null, boolean, number, string, Tree, s
 use Rattle.jsonb_layout.specs.declared.form.Form.TheVariants.{Array, Object}
 use Rattle.jsonb_encode.specs.Canonical.{IsCanonicalScalar, IsCanonicalItem, AreCanonicalElements, AreCanonicalValues, IsCanonical}
 use Rattle.jsonb_encode.specs.Encoded.{container, scalar_item, item, element_items, value_items, array_items, object_items, key_bytes, count_elements, count_members, encoded, canonical}
-use Rattle.jsonb_encode.specs.Limits.{AreSmall, ElementsAreSmall, MembersAreSmall, IsWithinLimits, ScalarIsExact, HasExactNumbers, ElementsHaveExactNumbers, MembersHaveExactNumbers, IsOfValue}
+use Rattle.jsonb_encode.specs.Limits.{AreSmall, ElementsAreSmall, MembersAreSmall, IsWithinLimits, ScalarIsExact, HasExactNumbers, ElementsHaveExactNumbers, MembersHaveExactNumbers, IsStorable}
 use Rattle.jsonb_encode.specs.Number.{numeric}
 use Rattle.jsonb_encode.specs.declared.number_form.NumericForm.TheVariants.{Short}
 use Rattle.jsonb_encode.proofs.TreeStands.{scalar_kind, array_laid, object_laid}
@@ -53,7 +53,7 @@ mutual
       (item_written t at rise.0 exact.0 small.0, values_written ms (at + length (item Short t at).piece) rise.1 exact.1 small.1)
 
 -- the tree of a value within the limits has canonical bytes, which are those that are written
-pub canonical_written : (t : Tree) → IsOfValue t → IsWithinLimits Short t → IsCanonical (canonical t) t
+pub canonical_written : (t : Tree) → IsStorable t → IsWithinLimits Short t → IsCanonical (canonical t) t
 unfolding encoded
 canonical_written (scalar s) h within = (
   scalar_item Short s 0,

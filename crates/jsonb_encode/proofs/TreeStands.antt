@@ -10,7 +10,7 @@ use Rattle.jsonb_layout.specs.Layout.{Item, Laid}
 use Rattle.jsonb_layout.specs.Stands.{key_item, IsScalar, IsItem, AreElements, AreValues, Stands}
 use Rattle.jsonb_layout.specs.declared.form.Form.TheVariants.{Array, Object}
 use Rattle.jsonb_encode.specs.Encoded.{container, scalar_item, item, element_items, value_items, array_items, object_items, key_items, key_bytes, count_elements, count_members, encoded, canonical}
-use Rattle.jsonb_encode.specs.Limits.{scalar_fits, all_fit, elements_fit, members_fit, AreSmall, ElementsAreSmall, MembersAreSmall, IsWithinLimits, ScalarIsExact, HasExactNumbers, ElementsHaveExactNumbers, MembersHaveExactNumbers, IsOfValue}
+use Rattle.jsonb_encode.specs.Limits.{scalar_fits, all_fit, elements_fit, members_fit, AreSmall, ElementsAreSmall, MembersAreSmall, IsWithinLimits, ScalarIsExact, HasExactNumbers, ElementsHaveExactNumbers, MembersHaveExactNumbers, IsStorable}
 use Rattle.jsonb_encode.specs.Number.{numeric}
 use Rattle.jsonb_encode.specs.declared.number_form.NumericForm.{NumericForm}
 use Rattle.jsonb_encode.proofs.NumberStands.{number_stands}
@@ -135,7 +135,7 @@ mutual
       (item_stands f t at rise.0 exact.0 b.0 small.0, values_stand f ms (at + length (item f t at).piece) rise.1 exact.1 b.1 small.1)
 
 -- the bytes of a tree stand for it
-pub tree_stands : (f : NumericForm) (t : Tree) → IsOfValue t → IsTrue (all_fit f t) → IsWithinLimits f t → Stands (encoded f t) t
+pub tree_stands : (f : NumericForm) (t : Tree) → IsStorable t → IsTrue (all_fit f t) → IsWithinLimits f t → Stands (encoded f t) t
 unfolding encoded
 tree_stands f (scalar s) h fit within = (
   scalar_item f s 0,
@@ -154,7 +154,7 @@ tree_stands f (object ms) h fit within =
     (value_items f ms (key_bytes ms), object_laid f ms within, h.rise.0, values_stand f ms (key_bytes ms) h.rise.1 h.exact fit within.1)
 
 -- the canonical bytes of a tree are those of no other
-pub canonical_apart : (t u : Tree) → IsOfValue t → IsOfValue u → IsWithinLimits Short t → IsWithinLimits Short u →
+pub canonical_apart : (t u : Tree) → IsStorable t → IsStorable u → IsWithinLimits Short t → IsWithinLimits Short u →
     (canonical t ≡ canonical u) ↔ (t ≡ u)
 canonical_apart t u a b v w = (
   λ e. one_tree (canonical t) t u (tree_stands Short t a (short_always t) v)

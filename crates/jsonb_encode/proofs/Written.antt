@@ -15,7 +15,7 @@ use Rattle.jsonb_layout.specs.Stands.{key_item, padding}
 use Rattle.jsonb_layout.specs.declared.form.Form.{Form}
 use Rattle.jsonb_layout.specs.declared.form.Form.TheVariants.{Array, Object}
 use Rattle.jsonb_encode.specs.Encoded.{container, item, element_items, value_items, object_items, key_items, count_elements, count_members, encoded}
-use Rattle.jsonb_encode.specs.Limits.{all_fit, elements_fit, members_fit, AreSmall, ElementsAreSmall, MembersAreSmall, ElementsHaveExactNumbers, MembersHaveExactNumbers, IsOfValue}
+use Rattle.jsonb_encode.specs.Limits.{all_fit, elements_fit, members_fit, AreSmall, ElementsAreSmall, MembersAreSmall, ElementsHaveExactNumbers, MembersHaveExactNumbers, IsStorable}
 use Rattle.jsonb_encode.specs.declared.error.EncodeError.{EncodeError}
 use Rattle.jsonb_encode.specs.declared.error.EncodeError.TheVariants.{TooLarge}
 use Rattle.jsonb_encode.specs.declared.number_form.NumericForm.{NumericForm}
@@ -137,7 +137,7 @@ not_smaller f ks us vs t at e =
 
 -- ---- what is known of them
 
-pub good_last : (f : NumericForm) (us : List Tree) (t : Tree) → AreGood f (elements_from us) → AreSmall f t → IsOfValue t
+pub good_last : (f : NumericForm) (us : List Tree) (t : Tree) → AreGood f (elements_from us) → AreSmall f t → IsStorable t
     → AreGood f (elements_from (us ++ t ∷ []))
 good_last f [] t g small value = record { small = (small, tt); rise = (value.rise, tt); exact = (value.exact, tt) }
 good_last f (u ∷ us) t g small value =

@@ -1,4 +1,4 @@
--- When a tree has bytes in a form, and what is true of the tree of each value in memory, and of that of number literals.
+-- When a tree has bytes in a form.
 -- The limits of a container are the layout's (PostgreSQL, `jsonb.h`: JB_CMASK, JENTRY_OFFLENMASK); those of numbers are this
 -- project's own.
 use Rattle.std.specs.Prelude.{ℕ, ◌^◌, ◌<◌, Bool, true, ◌&&◌, List, length}
@@ -60,7 +60,7 @@ IsWithinLimits f (scalar s) = length (scalar_item f s 0).piece < 2 ^ 28
 IsWithinLimits f (array ts) = AreSmall f (array ts)
 IsWithinLimits f (object ms) = AreSmall f (object ms)
 
--- ---- values in memory
+-- ---- trees that can be stored
 
 -- below 10 ^ 131072, and with at most 16383 fraction digits, however many digits it has
 abbrev pub ScalarIsExact : Scalar → Type 0
@@ -83,7 +83,8 @@ abbrev mutual
   MembersHaveExactNumbers no_members = Unit {0}
   MembersHaveExactNumbers (member k t ms) = HasExactNumbers t × MembersHaveExactNumbers ms
 
--- what is true of the tree of each value, and of one whose numbers are those of literals
-pub record IsOfValue (t : Tree) : Type 0 where
+-- A tree that the layout can hold, the limits of containers aside: its keys rise at each level, and its numbers are in range. The tree
+-- of each value is one, and so is one whose numbers are those of literals.
+pub record IsStorable (t : Tree) : Type 0 where
   pub rise : KeysRise t
   pub exact : HasExactNumbers t

@@ -15,7 +15,7 @@ IsBehind header size bytes (Err e) = (e ≡ Short) × (header ≤ size → size 
 abbrev pub IsKeptElsewhere : ℕ → Type 0
 IsKeptElsewhere first = first ≡ 1
 
--- `VARATT_IS_1B`: the lowest bit is 1, and the upper seven bits of this one byte are the size
+-- `VARATT_IS_1B`, but for the first byte 1: the lowest bit is 1, and the upper seven bits of this one byte are the size
 abbrev pub HasOneByteHeader : ℕ → Type 0
 HasOneByteHeader first = (first % 2 ≡ 1) × (first ≡ 1 → ⊥)
 

@@ -79,7 +79,7 @@ fn check_text(text: &str, form: NumericForm) -> Result<(), EncodeError>
     Ok(())
 }
 
-/// Whether texts are number literals that have a form: why the first that is none is refused, else.
+/// Whether texts are number literals that have a form. Else, why the first that is refused is.
 fn check_texts(texts: &[String], form: NumericForm) -> Result<(), EncodeError>
     ensures { MatchResult result (λ _. (ws : List Decimal) × AreNumerals form (map string_bytes texts.now) ws)
         (λ e. AreRefused form (map string_bytes texts.now) e) }

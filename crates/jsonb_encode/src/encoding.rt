@@ -31,8 +31,8 @@ fn has_form(value: &Value, form: NumericForm) -> bool
 /// outside -64 to 63, as 1e300. `TooLarge` comes only where, else, some container would have a count or a payload of 2^28 or
 /// more, and no other answer but want of memory comes then.
 ///
-/// It writes from left to right into one buffer, and sets the word of an item behind its piece. It takes memory for the bytes
-/// alone, and recurses as deep as the value nests.
+/// By review, it writes from left to right into one buffer, and sets the word of an item once its piece is written. It takes memory
+/// for the bytes alone, and recurses as deep as the value nests.
 pub fn encode_with(alloc: Global, value: &Value, form: NumericForm) -> Result<Vec<u8>, EncodeError>
     ensures bytes { IfOk result (λ bytes. bytes.items ≡ encoded form (tree value.now)) }
     ensures stands { IfOk result (λ bytes. Stands bytes.items (tree value.now)) }
@@ -53,8 +53,8 @@ pub fn encode_with(alloc: Global, value: &Value, form: NumericForm) -> Result<Ve
     }
 }
 
-/// The one byte string of a value's canonical form. They stand for exactly the value's tree, written fraction digits included. They
-/// are the bytes that PostgreSQL stores, where it takes the value: it refuses a string or a key with the character NUL.
+/// The bytes of a value's canonical form. They stand for exactly the value's tree, written fraction digits included. A database whose
+/// encoding is UTF8 stores these bytes where it takes the value: PostgreSQL refuses a string or a key with the character NUL.
 ///
 /// `TooLarge` comes only where some container would have a count or a payload of 2^28 or more, and no other answer but want of
 /// memory comes then.

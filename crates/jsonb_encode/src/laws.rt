@@ -10,10 +10,10 @@ ghost use Rattle.jsonb_layout.specs.Numeric.{Numeric};
 ghost use Rattle.jsonb_layout.specs.Stands.{Stands};
 ghost use Rattle.jsonb_encode.specs.Canonical.{IsCanonical};
 ghost use Rattle.jsonb_encode.specs.Encoded.{encoded, canonical};
-ghost use Rattle.jsonb_encode.specs.Limits.{all_fit, IsWithinLimits, IsOfValue};
+ghost use Rattle.jsonb_encode.specs.Limits.{all_fit, IsWithinLimits, IsStorable};
 ghost use Rattle.jsonb_encode.specs.Number.{header, is_short, numeric, fits};
 ghost use Rattle.jsonb_encode.specs.declared.number_form.NumericForm.{NumericForm};
-ghost use Rattle.jsonb_encode.specs.declared.number_form.NumericForm.TheVariants.{Short, ShortVarlena};
+ghost use Rattle.jsonb_encode.specs.declared.number_form.NumericForm.TheVariants.{Short, Long, ShortVarlena};
 
 use crate::in_memory::pass_over;
 use json_exact::{Number, Value};
@@ -30,8 +30,8 @@ pub fn numbers_are_narrow_and_in_range(number: &Number)
 
 /// In the tree of each value the keys rise at each level and the numbers are in range, as the laws below ask of a tree. Its numbers
 /// are narrow too. The law passes over the value once, by recursion as deep as it nests, and takes no memory.
-pub fn values_are_of_value(value: &Value)
-    ensures of_value { IsOfValue (tree value.now) }
+pub fn values_are_storable(value: &Value)
+    ensures storable { IsStorable (tree value.now) }
     ensures narrow { HasNarrow (tree value.now) }
 {
     pass_over(value)
@@ -47,15 +47,21 @@ pub fn narrow_numbers_fit()
     ensures { (d : Decimal) → IsNarrow d → fits ShortVarlena d ≡ is_short (header d) }
 {}
 
-/// The bytes of a tree stand for it in the layout's grammar, where it is the tree of a value, its numbers have the form and its
-/// containers are within the limits. So the grammar has bytes for each such tree.
-pub fn encoded_bytes_stand()
-    ensures { (f : NumericForm) (t : Tree) → IsOfValue t → IsTrue (all_fit f t) → IsWithinLimits f t → Stands (encoded f t) t }
+/// Each number of each tree has the forms `Short` and `Long`. So `DoesNotFit` comes with the form of one size byte alone.
+pub fn short_and_long_fit_each_tree()
+    ensures short { (t : Tree) → IsTrue (all_fit Short t) }
+    ensures long { (t : Tree) → IsTrue (all_fit Long t) }
 {}
 
-/// The canonical bytes of two trees of values are the same exactly where the trees are, written fraction digits included.
+/// The bytes of a tree stand for it in the layout's grammar, where it can be stored, its numbers have the form and its containers are
+/// within the limits. So the grammar has bytes for each such tree.
+pub fn encoded_bytes_stand()
+    ensures { (f : NumericForm) (t : Tree) → IsStorable t → IsTrue (all_fit f t) → IsWithinLimits f t → Stands (encoded f t) t }
+{}
+
+/// The canonical bytes of two trees that can be stored are the same exactly where the trees are, written fraction digits included.
 pub fn canonical_bytes_tell_trees_apart()
-    ensures { (t u : Tree) → IsOfValue t → IsOfValue u → IsWithinLimits Short t → IsWithinLimits Short u
+    ensures { (t u : Tree) → IsStorable t → IsStorable u → IsWithinLimits Short t → IsWithinLimits Short u
         → ((canonical t ≡ canonical u) ↔ (t ≡ u)) }
 {}
 
@@ -73,7 +79,7 @@ pub fn canonical_bytes_stand()
 /// Where the keys of a tree rise at each level, its numbers are in range and its containers are within the limits, it has canonical
 /// bytes: those that `encode` gives for a value. No other tree has any.
 pub fn values_have_canonical_bytes()
-    ensures some { (t : Tree) → IsOfValue t → IsWithinLimits Short t → IsCanonical (canonical t) t }
-    ensures only_of_value { (t : Tree) (b : List ℕ) → IsCanonical b t → IsOfValue t }
+    ensures some { (t : Tree) → IsStorable t → IsWithinLimits Short t → IsCanonical (canonical t) t }
+    ensures only_storable { (t : Tree) (b : List ℕ) → IsCanonical b t → IsStorable t }
     ensures only_within_limits { (t : Tree) (b : List ℕ) → IsCanonical b t → IsWithinLimits Short t }
 {}

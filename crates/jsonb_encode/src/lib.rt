@@ -1,7 +1,7 @@
 //! Bytes of PostgreSQL's `jsonb` that stand for a JSON value in memory, or for number literals of any number of digits.
 //!
-//! [`encode`] gives the one byte string of a value's canonical form: the bytes that PostgreSQL stores, where it takes the value. It
-//! refuses a string or a key with the character NUL (U+0000), which has bytes here all the same. [`encode_with`] writes the numbers
+//! [`encode`] gives the one byte string of a value's canonical form: the bytes that a database in UTF8 stores, where it takes the
+//! value. PostgreSQL refuses a string or a key with the character NUL (U+0000), which has bytes here all the same. [`encode_with`] writes the numbers
 //! in one of three forms, a [`NumericForm`]. Both keep the fraction digits that are written: `1` and `1.0` have different bytes.
 //!
 //! ```text
@@ -24,8 +24,8 @@
 //! A value's numbers have at most 38 digits. Literals may have any number: PostgreSQL stores them, and a reader with narrower
 //! numbers must tell them apart from what is damaged.
 //!
-//! The writer goes from left to right into one buffer: it writes empty words for the items of a container, and sets each behind its
-//! piece. It takes memory for the bytes alone.
+//! The writer goes from left to right into one buffer: it writes empty words for the items of a container, and sets each
+//! once its piece is written. It takes memory for the bytes alone. Both are by review.
 //!
 //! What the bytes are is said in `specs/`: `Number` for a number in a form, `Encoded` for a tree, `Canonical` for which bytes are
 //! canonical for which tree, `Limits` for when a tree has bytes, `Literals` for which texts have, `Children` for an array of

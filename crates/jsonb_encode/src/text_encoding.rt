@@ -32,7 +32,7 @@ pub fn encode_numeric_text_scalar(
 
 /// The bytes of an array of the numbers that number literals write, in a form. They stand for this array alone.
 ///
-/// `NotANumber`, `OutOfRange` and `DoesNotFit` come exactly where they are why the first text that is refused has no bytes, as
+/// `NotANumber`, `OutOfRange` and `DoesNotFit` come exactly where the first text that is refused is refused so, as
 /// `encode_numeric_text_scalar` says. `TooLarge` comes only where no text is refused and the array would have a count or a payload
 /// of 2^28 or more, and no other answer but want of memory comes then.
 pub fn encode_numeric_text_array(

@@ -1,8 +1,8 @@
 -- What is true of the tree of each value in memory.
 use Rattle.json_model.specs.Json.{HasNarrow}
 use Rattle.json_model.specs.Tree.{Tree}
-use Rattle.jsonb_encode.specs.Limits.{IsOfValue}
+use Rattle.jsonb_encode.specs.Limits.{IsStorable}
 
 pub record IsInMemory (t : Tree) : Type 0 where
-  pub value : IsOfValue t
+  pub value : IsStorable t
   pub narrow : HasNarrow t

@@ -12,7 +12,7 @@ use Rattle.jsonb_layout.specs.declared.form.Form.{Form}
 use Rattle.jsonb_layout.specs.declared.form.Form.TheVariants.{Object, Lone}
 use Rattle.jsonb_layout.specs.declared.header.Header.{Header}
 use Rattle.jsonb_encode.specs.Encoded.{container, item, element_items, encoded}
-use Rattle.jsonb_encode.specs.Limits.{AreSmall, ElementsAreSmall, IsWithinLimits, IsOfValue, ElementsHaveExactNumbers}
+use Rattle.jsonb_encode.specs.Limits.{AreSmall, ElementsAreSmall, IsWithinLimits, IsStorable, ElementsHaveExactNumbers}
 use Rattle.jsonb_encode.specs.Number.{head}
 use Rattle.jsonb_encode.specs.declared.error.EncodeError.{EncodeError}
 use Rattle.jsonb_encode.specs.declared.error.EncodeError.TheVariants.{TooLarge, OutOfMemory}
@@ -56,13 +56,13 @@ pub record IsWritten (form : NumericForm) (t : Tree) (at : ℕ) (before after : 
   pub kind_is : (item form t at).kind ≡ kind
   pub bytes : after ≡ before ++ (item form t at).piece
   pub small : AreSmall form t
-  pub value : IsOfValue t
+  pub value : IsStorable t
 
 -- an array or object is written behind the bytes before
 pub record IsWhole (form : NumericForm) (t : Tree) (before after : List ℕ) : Type 0 where
   pub bytes : after ≡ before ++ encoded form t
   pub small : AreSmall form t
-  pub value : IsOfValue t
+  pub value : IsStorable t
 
 -- why a tree is not written
 abbrev pub IsUnwritten : NumericForm → Tree → EncodeError → Type 0
@@ -101,7 +101,7 @@ IsUnkeyed ps e = (e ≡ OutOfMemory) ⊎ ((e ≡ TooLarge) × ((2 ^ 28 ≤ lengt
 pub record IsLone (form : NumericForm) (t : Tree) (before after : List ℕ) : Type 0 where
   pub bytes : after ≡ before ++ container Lone 1 (item form t 0 ∷ [])
   pub within : length (item form t 0).piece < 2 ^ 28
-  pub value : IsOfValue t
+  pub value : IsStorable t
 
 abbrev pub IsNotLone : NumericForm → Tree → EncodeError → Type 0
 IsNotLone form t e = IsUnwritten form t e ⊎ ((e ≡ TooLarge) × (2 ^ 28 ≤ length (item form t 0).piece))
@@ -110,7 +110,7 @@ IsNotLone form t e = IsUnwritten form t e ⊎ ((e ≡ TooLarge) × (2 ^ 28 ≤ l
 pub record IsRoot (form : NumericForm) (t : Tree) (before after : List ℕ) : Type 0 where
   pub bytes : after ≡ before ++ encoded form t
   pub within : IsWithinLimits form t
-  pub value : IsOfValue t
+  pub value : IsStorable t
 
 abbrev pub IsNoRoot : NumericForm → Tree → EncodeError → Type 0
 IsNoRoot form t e = (e ≡ OutOfMemory) ⊎ ((e ≡ TooLarge) × ¬ IsWithinLimits form t)

@@ -117,17 +117,17 @@ at_each P (x ∷ xs) zero p h e = let s : x ≡ p = cc in subst P s h.0
 at_each P (x ∷ xs) (suc k) p h e = at_each P xs k p h.1 e
 
 -- a keyword of which nothing is kept is always free
-where_kept : {c : Checks} (w : Keyword) → (is_silent w ≡ false → IsFree w c) → IsFree w c
-where_kept «Type» f = f refl
-where_kept Enum f = f refl
-where_kept Const f = f refl
-where_kept (Bound op) f = f refl
-where_kept (Least measure) f = f refl
-where_kept (Greatest measure) f = f refl
-where_kept Pattern f = f refl
-where_kept UniqueItems f = f refl
-where_kept Required f = f refl
-where_kept (Silent form) f = tt
+where_kept : (c : Checks) (w : Keyword) → (is_silent w ≡ false → IsFree w c) → IsFree w c
+where_kept c «Type» f = f refl
+where_kept c Enum f = f refl
+where_kept c Const f = f refl
+where_kept c (Bound op) f = f refl
+where_kept c (Least measure) f = f refl
+where_kept c (Greatest measure) f = f refl
+where_kept c Pattern f = f refl
+where_kept c UniqueItems f = f refl
+where_kept c Required f = f refl
+where_kept c (Silent form) f = tt
 
 -- the first k pairs of t were taken in
 pub record Walked (t : Tree) (checks : Checks) (k : ℕ) : Type 0 where
@@ -151,7 +151,7 @@ starts t checks is_object rise passes free memory = record {
 
 module _ (t : Tree) (checks : Checks) (k : ℕ) (p : Pair) (at : AtItem (pairs_of t) k p) (s : Walked t checks k) where
   pub free_now : (w : Keyword) → keyword_of p.0 ≡ Some w → IsFree w checks
-  free_now w e = where_kept w (λ kept. s.free w (new_key (pairs_of t) k p w kept s.rise at e))
+  free_now w e = where_kept checks w (λ kept. s.free w (new_key (pairs_of t) k p w kept s.rise at e))
 
   pub goes_on : (new : Checks) → Took checks p new → Walked t new (k + 1)
   goes_on new took = record {

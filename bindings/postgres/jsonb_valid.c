@@ -24,7 +24,7 @@ static const struct refusal refusals[] = {
 	[JUDGE_KEYWORDS_NUMBER_TOO_WIDE] = {ERRCODE_NUMERIC_VALUE_OUT_OF_RANGE,
 		"A number of the keywords has more than 38 digits from the first to the last that is not 0."},
 	[JUDGE_NOT_AN_OBJECT] = {ERRCODE_INVALID_PARAMETER_VALUE, "The keywords are no JSON object."},
-	[JUDGE_UNKNOWN_KEYWORD] = {ERRCODE_INVALID_PARAMETER_VALUE, "None of the sixteen keywords has this name."},
+	[JUDGE_UNKNOWN_KEYWORD] = {ERRCODE_INVALID_PARAMETER_VALUE, "No keyword has this name."},
 	[JUDGE_BAD_KEYWORD] = {ERRCODE_INVALID_PARAMETER_VALUE, "The value is not of the form that the keyword asks for."},
 	[JUDGE_BAD_PATTERN] = {ERRCODE_INVALID_REGULAR_EXPRESSION, "The value is no pattern of ECMA-262."},
 	[JUDGE_PATTERN_NOT_LITERAL] = {ERRCODE_FEATURE_NOT_SUPPORTED, "The value is a pattern, but not a literal one."},

@@ -17,7 +17,7 @@ use Rattle.judge.specs.Verdict.{Holds, IsUpTo, Reaches, count_of}
 use Rattle.judge.specs.declared.bounds.Bounds.{Bounds}
 use Rattle.judge.specs.declared.checks.Checks.{Checks}
 use Rattle.judge.specs.declared.keyword.Keyword.{Keyword}
-use Rattle.judge.specs.declared.keyword.Keyword.TheVariants.{«Type», Enum, Const, Bound, Least, Greatest, UniqueItems, Pattern, Required}
+use Rattle.judge.specs.declared.keyword.Keyword.TheVariants.{«Type», Enum, Const, Bound, Least, Greatest, UniqueItems, Pattern, Required, Silent}
 use Rattle.judge.specs.declared.keyword.Measure.{Measure}
 use Rattle.judge.specs.declared.keyword.Measure.TheVariants.{CodePoints, Elements, Members}
 use Rattle.judge.specs.declared.limits.Limit.{Limit}
@@ -120,6 +120,7 @@ module _ (old : Checks) (v : Tree) where
       others UniqueItems other h = h
       others Pattern other h = h
       others Required other h = h
+      others (Silent form) other h = h
 
   -- a list of values that was kept
   pub adds_listed : (values : Vec Value Global) → IsFree Enum old → Suits Enum v → AreListed v values.items
@@ -174,6 +175,7 @@ module _ (old : Checks) (v : Tree) where
       others UniqueItems other h = h
       others Pattern other h = h
       others Required other h = h
+      others (Silent form) other h = h
 
   -- a pattern that was kept
   pub adds_pattern : (a : LiteralPattern) → IsFree Pattern old → Suits Pattern v → IsPatternOf v a
@@ -228,6 +230,7 @@ module _ (old : Checks) (v : Tree) where
       others UniqueItems other h = h
       others Pattern other h = absurd (other refl)
       others Required other h = h
+      others (Silent form) other h = h
 
   -- a truth value that was set for `uniqueItems`
   pub adds_unique : (b : Bool) → IsFree UniqueItems old → as_boolean v ≡ Some b → Adds old UniqueItems v (record old { unique = b })
@@ -288,6 +291,7 @@ module _ (old : Checks) (v : Tree) where
       others UniqueItems other h = absurd (other refl)
       others Pattern other h = h
       others Required other h = h
+      others (Silent form) other h = h
 
   module _ (measure : Measure) (limit : Limit) (new : Checks) (is : IsSomeAnd (as_number v) (λ m. IsCount m × IsLimitOf limit m)) where
     form : IsSomeAnd (as_number v) IsCount

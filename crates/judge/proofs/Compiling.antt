@@ -1,5 +1,5 @@
 -- What compiling keeps from member to member.
-use Rattle.std.proofs.Common.{arith, ◌≡◌, ℕ, zero, suc, ◌+◌, ◌<◌, ◌≤◌, ◌⊎◌, inl, inr, List, [], ◌∷◌, ◌++◌, length, take, map, Option, Some, None, true, refl, sym, ap, ◌∙◌, subst, take_all}
+use Rattle.std.proofs.Common.{arith, ◌≡◌, ℕ, zero, suc, ◌+◌, ◌<◌, ◌≤◌, ◌⊎◌, inl, inr, List, [], ◌∷◌, ◌++◌, length, take, map, Option, Some, None, true, false, refl, sym, ap, ◌∙◌, subst, take_all}
 use Rattle.std.specs.Prelude.{slice_get, IsSome, IsSomeAnd, ◌↔◌, Result, Err}
 use Rattle.std.specs.List.{AllByRecursion}
 use Rattle.std.proofs.lemmas.Option.{slice_get_past}
@@ -17,8 +17,8 @@ use Rattle.judge.specs.declared.checks.Checks.{Checks}
 use Rattle.judge.specs.declared.errors.KeywordError.{KeywordError}
 use Rattle.judge.specs.declared.errors.KeywordError.TheVariants.{NotAnObject, UnknownKeyword, BadKeyword, BadPattern, PatternNotLiteral, TooDeep, OutOfMemory}
 use Rattle.judge.specs.declared.keyword.Keyword.{Keyword}
-use Rattle.judge.proofs.KeywordNames.{one_name}
-use Rattle.judge.specs.declared.keyword.Keyword.TheVariants.{«Type», Enum, Const, Bound, Least, Greatest, Pattern, Required, UniqueItems}
+use Rattle.judge.proofs.KeywordNames.{is_silent, one_name}
+use Rattle.judge.specs.declared.keyword.Keyword.TheVariants.{«Type», Enum, Const, Bound, Least, Greatest, Pattern, Required, UniqueItems, Silent}
 use Rattle.json_model.proofs.KeyOrderLaws.{rises_all, rises_tail, not_before}
 
 abbrev pub Pair : Type 0
@@ -41,10 +41,10 @@ at_place P [] k p h e = absurd (let z : None ≡ Some p = sym (slice_get_past []
 at_place P (x ∷ xs) zero p h e = let s : x ≡ p = cc in subst (λ (q : Pair). P q.0) s h.0
 at_place P (x ∷ xs) (suc k) p h e = at_place P xs k p h.1 e
 
--- no key before place k has the keyword of the key there
-new_key : (ps : List Pair) (k : ℕ) (p : Pair) (w : Keyword) → rises (map (λ (q : Pair). q.0) ps) ≡ true → AtItem ps k p
+-- no key before place k has the keyword of the key there, if something is kept of it
+new_key : (ps : List Pair) (k : ℕ) (p : Pair) (w : Keyword) → is_silent w ≡ false → rises (map (λ (q : Pair). q.0) ps) ≡ true → AtItem ps k p
     → keyword_of p.0 ≡ Some w → AllByRecursion (λ (q : Pair). keyword_of q.0 ≡ Some w → ⊥) (take k ps)
-new_key ps k p w h at e = go ps k h at.here
+new_key ps k p w kept h at e = go ps k h at.here
   where
     go : (ps : List Pair) (k : ℕ) → rises (map (λ (q : Pair). q.0) ps) ≡ true → slice_get ps k ≡ Some p
         → AllByRecursion (λ (q : Pair). keyword_of q.0 ≡ Some w → ⊥) (take k ps)
@@ -53,7 +53,7 @@ new_key ps k p w h at e = go ps k h at.here
     go (x ∷ xs) zero h is = tt
     go (x ∷ xs) (suc k) h is =
         let keys = map (λ (q : Pair). q.0) xs in (
-          λ same. not_before x.0 p.0 (at_place (λ y. key_before x.0 y ≡ true) xs k p (rises_all x.0 keys h) is) (one_name x.0 p.0 w same e),
+          λ same. not_before x.0 p.0 (at_place (λ y. key_before x.0 y ≡ true) xs k p (rises_all x.0 keys h) is) (one_name x.0 p.0 w kept same e),
           go xs k (rises_tail x.0 keys h) is,
         )
 
@@ -108,12 +108,26 @@ list_alone (Greatest measure) v other h = absurd h
 list_alone Pattern v other h = absurd (other.1 refl)
 list_alone UniqueItems v other h = absurd h
 list_alone Required v other h = list_nests v h
+list_alone (Silent form) v other h = absurd h
 
 -- what holds of all holds at a place
 pub at_each : (P : Pair → Type 0) (ps : List Pair) (k : ℕ) (p : Pair) → AllByRecursion P ps → slice_get ps k ≡ Some p → P p
 at_each P [] k p h e = absurd (let z : None ≡ Some p = sym (slice_get_past [] k (omega arith)) ∙ e in cc)
 at_each P (x ∷ xs) zero p h e = let s : x ≡ p = cc in subst P s h.0
 at_each P (x ∷ xs) (suc k) p h e = at_each P xs k p h.1 e
+
+-- a keyword of which nothing is kept is always free
+where_kept : (c : Checks) (w : Keyword) → (is_silent w ≡ false → IsFree w c) → IsFree w c
+where_kept c «Type» f = f refl
+where_kept c Enum f = f refl
+where_kept c Const f = f refl
+where_kept c (Bound op) f = f refl
+where_kept c (Least measure) f = f refl
+where_kept c (Greatest measure) f = f refl
+where_kept c Pattern f = f refl
+where_kept c UniqueItems f = f refl
+where_kept c Required f = f refl
+where_kept c (Silent form) f = tt
 
 -- the first k pairs of t were taken in
 pub record Walked (t : Tree) (checks : Checks) (k : ℕ) : Type 0 where
@@ -137,7 +151,7 @@ starts t checks is_object rise passes free memory = record {
 
 module _ (t : Tree) (checks : Checks) (k : ℕ) (p : Pair) (at : AtItem (pairs_of t) k p) (s : Walked t checks k) where
   pub free_now : (w : Keyword) → keyword_of p.0 ≡ Some w → IsFree w checks
-  free_now w e = s.free w (new_key (pairs_of t) k p w s.rise at e)
+  free_now w e = where_kept checks w (λ kept. s.free w (new_key (pairs_of t) k p w kept s.rise at e))
 
   pub goes_on : (new : Checks) → Took checks p new → Walked t new (k + 1)
   goes_on new took = record {

@@ -1,5 +1,5 @@
 -- Each keyword has one name.
-use Rattle.std.proofs.Common.{rules, ◌≡◌, ℕ, ◌+◌, List, [], ◌∷◌, Bool, true, false, not, ◌&&◌, ◌||◌, nat_eq, Some, refl, sym, subst, ◌∙◌}
+use Rattle.std.proofs.Common.{rules, ◌≡◌, ℕ, ◌+◌, List, [], ◌∷◌, Bool, true, false, not, ◌&&◌, ◌||◌, nat_eq, Some, refl, sym, ap, subst, ◌∙◌}
 use Rattle.std.specs.Prelude.{bytes_eq, if◌then◌else◌}
 use Rattle.std.proofs.lemmas.Slice.Eq.{bytes_eq-Decides}
 use Rattle.json_model.specs.Parts.{lookup}
@@ -8,7 +8,7 @@ use Rattle.judge.specs.Names.{keyword_of, keywords}
 use Rattle.judge.specs.declared.keyword.Measure.{Measure}
 use Rattle.judge.specs.declared.keyword.Measure.TheVariants.{CodePoints, Elements, Members}
 use Rattle.judge.specs.declared.keyword.Keyword.{Keyword}
-use Rattle.judge.specs.declared.keyword.Keyword.TheVariants.{«Type», Enum, Const, Bound, Least, Greatest, Pattern, Required, UniqueItems}
+use Rattle.judge.specs.declared.keyword.Keyword.TheVariants.{«Type», Enum, Const, Bound, Least, Greatest, Pattern, Required, UniqueItems, Silent}
 
 abbrev measure_number : Measure → ℕ
 measure_number CodePoints = 0
@@ -26,15 +26,21 @@ number_of UniqueItems = 5
 number_of (Bound op) = 10 + code_of op
 number_of (Least measure) = 20 + measure_number measure
 number_of (Greatest measure) = 30 + measure_number measure
+number_of (Silent form) = 40
+
+-- nothing is kept of the keyword
+abbrev pub is_silent : Keyword → Bool
+is_silent (Silent form) = true
+is_silent _ = false
 
 abbrev has_number : ℕ → List (List ℕ × Keyword) → Bool
 has_number n [] = false
 has_number n (p ∷ ps) = nat_eq n (number_of p.1) || has_number n ps
 
--- no two entries have one keyword
+-- no two entries have one keyword of which something is kept
 abbrev are_distinct : List (List ℕ × Keyword) → Bool
 are_distinct [] = true
-are_distinct (p ∷ ps) = not (has_number (number_of p.1) ps) && are_distinct ps
+are_distinct (p ∷ ps) = (is_silent p.1 || not (has_number (number_of p.1) ps)) && are_distinct ps
 
 same_number : (n : ℕ) → nat_eq n n ≡ true
 same_number n = search rules
@@ -58,10 +64,11 @@ stands k (p ∷ ps) w e = go (bytes_eq k p.0) e (stands k ps w)
         or_left _ _ (subst (λ (u : Keyword). nat_eq (number_of w) (number_of u) ≡ true) (sym s) (same_number (number_of w)))
     go false e f = or_right _ _ (f e)
 
--- the first entry's keyword stands in no other entry
-apart : (has rest : Bool) → (not has && rest) ≡ true → (has ≡ false) × (rest ≡ true)
-apart true rest e = absurd cc
-apart false rest e = (refl, e)
+-- the first entry's keyword stands in no other entry, if something is kept of it
+apart : (silent has rest : Bool) → ((silent || not has) && rest) ≡ true → (silent ≡ false → has ≡ false) × (rest ≡ true)
+apart true has rest e = (λ kept. absurd cc, e)
+apart false true rest e = absurd cc
+apart false false rest e = (λ _. refl, e)
 
 never : (m : List ℕ) (u w : Keyword) (ps : List (List ℕ × Keyword)) → has_number (number_of u) ps ≡ false → u ≡ w → lookup m ps ≡ Some w → ⊥
 never m u w ps free s h =
@@ -70,20 +77,23 @@ never m u w ps free s h =
 
 -- two names under which one keyword is found are one, where no two entries have one keyword
 one_name_in : (k l : List ℕ) (ps : List (List ℕ × Keyword)) (w : Keyword)
-    → are_distinct ps ≡ true → lookup k ps ≡ Some w → lookup l ps ≡ Some w → k ≡ l
-one_name_in k l [] w d e f = absurd cc
-one_name_in k l (p ∷ ps) w d e f =
-    let a = apart (has_number (number_of p.1) ps) (are_distinct ps) d in
-    go a.0 (bytes_eq k p.0) (bytes_eq l p.0) refl refl e f (one_name_in k l ps w a.1)
+    → is_silent w ≡ false → are_distinct ps ≡ true → lookup k ps ≡ Some w → lookup l ps ≡ Some w → k ≡ l
+one_name_in k l [] w kept d e f = absurd cc
+one_name_in k l (p ∷ ps) w kept d e f =
+    let a = apart (is_silent p.1) (has_number (number_of p.1) ps) (are_distinct ps) d in
+    go a.0 (bytes_eq k p.0) (bytes_eq l p.0) refl refl e f (one_name_in k l ps w kept a.1)
   where
-    go : has_number (number_of p.1) ps ≡ false → (a b : Bool) → bytes_eq k p.0 ≡ a → bytes_eq l p.0 ≡ b
+    is_kept : p.1 ≡ w → is_silent p.1 ≡ false
+    is_kept s = ap is_silent s ∙ kept
+
+    go : (is_silent p.1 ≡ false → has_number (number_of p.1) ps ≡ false) → (a b : Bool) → bytes_eq k p.0 ≡ a → bytes_eq l p.0 ≡ b
         → (if a then Some p.1 else lookup k ps) ≡ Some w → (if b then Some p.1 else lookup l ps) ≡ Some w
         → (lookup k ps ≡ Some w → lookup l ps ≡ Some w → k ≡ l) → k ≡ l
     go free true true x y e f more = (bytes_eq-Decides k p.0).0 x ∙ sym ((bytes_eq-Decides l p.0).0 y)
-    go free true false x y e f more = absurd (never l p.1 w ps free (let s : p.1 ≡ w = cc in s) f)
-    go free false true x y e f more = absurd (never k p.1 w ps free (let s : p.1 ≡ w = cc in s) e)
+    go free true false x y e f more = let s : p.1 ≡ w = cc in absurd (never l p.1 w ps (free (is_kept s)) s f)
+    go free false true x y e f more = let s : p.1 ≡ w = cc in absurd (never k p.1 w ps (free (is_kept s)) s e)
     go free false false x y e f more = more e f
 
--- two names of one keyword are one name
-pub one_name : (k l : List ℕ) (w : Keyword) → keyword_of k ≡ Some w → keyword_of l ≡ Some w → k ≡ l
-one_name k l w e f = one_name_in k l keywords w refl e f
+-- two names of one keyword of which something is kept are one name
+pub one_name : (k l : List ℕ) (w : Keyword) → is_silent w ≡ false → keyword_of k ≡ Some w → keyword_of l ≡ Some w → k ≡ l
+one_name k l w kept e f = one_name_in k l keywords w kept refl e f

@@ -22,7 +22,7 @@ use Rattle.judge.specs.Names.{keyword_of}
 use Rattle.judge.specs.Patterns.{Finds}
 use Rattle.judge.specs.Verdict.{Holds, HoldsAt, IsKeyOf, IsOneOf, IsUpTo, Reaches, Verdict, count_of}
 use Rattle.judge.specs.declared.keyword.Keyword.{Keyword}
-use Rattle.judge.specs.declared.keyword.Keyword.TheVariants.{«Type», Enum, Const, Bound, Least, Greatest, Pattern, Required, UniqueItems}
+use Rattle.judge.specs.declared.keyword.Keyword.TheVariants.{«Type», Enum, Const, Bound, Least, Greatest, Pattern, Required, UniqueItems, Silent}
 use Rattle.judge.specs.declared.keyword.Measure.{Measure}
 use Rattle.judge.specs.declared.keyword.Measure.TheVariants as counted_as
 use Rattle.json_semantics.specs.Bounds.{Keeps}
@@ -242,6 +242,7 @@ module _ (d e : Tree) (f : KeysRise d) (g : KeysRise e) (s : Same d e) where
   holds_on Pattern v r h = subst (λ (o : Option (List ℕ)). IfSome (as_string v) (λ p. IfSome o (Finds p))) (one_string d e s) h
   holds_on UniqueItems v r h = λ asks. unique_on d e f g s (h asks)
   holds_on Required v r h = required_on v d e s h
+  holds_on (Silent form) v r h = h
 
   -- what d meets, e meets, in whatever order their members stand
   verdict_on : (ps : List (List ℕ × Tree)) → AllByRecursion ValueRises ps → AllByRecursion (HoldsAt d) ps → AllByRecursion (HoldsAt e) ps

@@ -9,12 +9,14 @@ use Rattle.json_model.specs.Tree.{Tree, scalar, array, object}
 use Rattle.json_traits.specs.Names.{name_of}
 use Rattle.json_traits.specs.Numbers.{whole}
 use Rattle.judge.specs.Names.{keyword_of}
-use Rattle.judge.specs.Validity.{AreDistinct, AreNames, AreTypeNames, HasDeep, HasFault, HasForm, IsBad, IsBadPattern, IsCount, IsDeep, IsFair, IsFirst, IsNoPattern, IsNotLiteral, IsTooDeep, IsTypeName, IsUnknown, KeepsDeep, NeedsEngine, Suits}
+use Rattle.judge.specs.Validity.{AreDistinct, AreNames, AreTypeNames, HasDeep, HasFault, HasForm, IsBad, IsBadPattern, IsCount, IsDeep, IsFair, IsFirst, IsNoPattern, IsNotLiteral, IsOfForm, IsTooDeep, IsTypeName, IsUnknown, KeepsDeep, NeedsEngine, Suits}
 use Rattle.judge.specs.Verdict.{IsNameOf}
 use Rattle.judge.specs.declared.errors.KeywordError.{KeywordError}
 use Rattle.judge.specs.declared.errors.KeywordError.TheVariants as keyword
+use Rattle.judge.specs.declared.keyword.Form.{Form}
+use Rattle.judge.specs.declared.keyword.Form.TheVariants.{Anything, Text, Truth, Array}
 use Rattle.judge.specs.declared.keyword.Keyword.{Keyword}
-use Rattle.judge.specs.declared.keyword.Keyword.TheVariants.{«Type», Enum, Const, Bound, Least, Greatest, Pattern, Required, UniqueItems}
+use Rattle.judge.specs.declared.keyword.Keyword.TheVariants.{«Type», Enum, Const, Bound, Least, Greatest, Pattern, Required, UniqueItems, Silent}
 use Rattle.judge.proofs.PatternFaults.{decided_engine, decided_no_pattern}
 use Rattle.jsonschema_regex.proofs.DecidedPatterns.{Decided}
 use Rattle.judge.proofs.Decided.{decided_less, decided_all, decided_and, decided_below, decided_both, decided_either, decided_filled, decided_not, decided_some, decided_type, decided_whole, same_texts}
@@ -49,6 +51,12 @@ decided_count m = decided_both (decided_whole m) (decided_not (decided_below m (
 decided_limit : (v : Tree) → Decided (IsSomeAnd (as_number v) IsCount)
 decided_limit v = decided_and IsCount decided_count (as_number v)
 
+decided_of_form : (form : Form) (v : Tree) → Decided (IsOfForm form v)
+decided_of_form Anything v = inl tt
+decided_of_form Text v = decided_some (as_string v)
+decided_of_form Truth v = decided_some (as_boolean v)
+decided_of_form Array v = decided_some (as_array v)
+
 pub decided_form : (w : Keyword) (v : Tree) → Decided (HasForm w v)
 decided_form «Type» v = decided_either (decided_type_name v) (decided_and AreTypeNames decided_type_names (as_array v))
 decided_form Enum v = decided_some (as_array v)
@@ -59,6 +67,7 @@ decided_form (Greatest measure) v = decided_limit v
 decided_form Pattern v = decided_some (as_string v)
 decided_form UniqueItems v = decided_some (as_boolean v)
 decided_form Required v = decided_and AreNames decided_names (as_array v)
+decided_form (Silent form) v = decided_of_form form v
 
 decided_is_deep : (v : Tree) → Decided (IsDeep v)
 decided_is_deep v = decided_less 128 (nest v)
@@ -77,6 +86,7 @@ decided_deep (Greatest measure) v = inr (λ h. h)
 decided_deep Pattern v = inr (λ h. h)
 decided_deep UniqueItems v = inr (λ h. h)
 decided_deep Required v = inr (λ h. h)
+decided_deep (Silent form) v = inr (λ h. h)
 
 -- ---- a member has no fault, or one of the five
 

@@ -19,7 +19,7 @@ use Rattle.judge.specs.Names.{keyword_of}
 use Rattle.judge.specs.Validity.{IsFair, IsValid, Suits}
 use Rattle.judge.specs.Verdict.{Holds, HoldsAt, IsAmong, IsKeyOf, IsNamed, IsOneOf, IsUpTo, Reaches, Verdict, count_of}
 use Rattle.judge.specs.declared.keyword.Keyword.{Keyword}
-use Rattle.judge.specs.declared.keyword.Keyword.TheVariants.{«Type», Enum, Const, Bound, Least, Greatest, Pattern, Required, UniqueItems}
+use Rattle.judge.specs.declared.keyword.Keyword.TheVariants.{«Type», Enum, Const, Bound, Least, Greatest, Pattern, Required, UniqueItems, Silent}
 use Rattle.judge.proofs.PatternVerdicts.{decided_found}
 use Rattle.judge.proofs.BoundLaws.{at_most}
 use Rattle.judge.proofs.DecidedSame.{decided_same}
@@ -102,6 +102,7 @@ decided_holds (Least measure) v d suits = decided_limit Reaches decided_reaches 
 decided_holds (Greatest measure) v d suits = decided_limit IsUpTo decided_up_to v (count_of measure d)
 decided_holds UniqueItems v d suits =
     decided_then (same_truth_values (as_boolean v) (Some true)) (decided_if IsUnique decided_unique (as_array d))
+decided_holds (Silent form) v d suits = inl tt
 decided_holds Pattern v d suits = decided_found (as_string v) (as_string d) suits.pattern suits.literal
 decided_holds Required v d suits =
     decided_if (λ ps. AllByRecursion (IsKeyOf ps) (elements_of v)) (λ ps. decided_all (IsKeyOf ps) (decided_key ps) (elements_of v)) (as_object d)

@@ -14,8 +14,10 @@ use Rattle.judge.specs.Patterns.{IsLiteral, IsPattern}
 use Rattle.judge.specs.Verdict.{IsNameOf}
 use Rattle.judge.specs.declared.errors.KeywordError.{KeywordError}
 use Rattle.judge.specs.declared.errors.KeywordError.TheVariants.{NotAnObject, UnknownKeyword, BadKeyword, BadPattern, PatternNotLiteral, TooDeep, OutOfMemory}
+use Rattle.judge.specs.declared.keyword.Form.{Form}
+use Rattle.judge.specs.declared.keyword.Form.TheVariants.{Anything, Text, Truth, Array}
 use Rattle.judge.specs.declared.keyword.Keyword.{Keyword}
-use Rattle.judge.specs.declared.keyword.Keyword.TheVariants.{«Type», Enum, Const, Bound, Least, Greatest, Pattern, Required, UniqueItems}
+use Rattle.judge.specs.declared.keyword.Keyword.TheVariants.{«Type», Enum, Const, Bound, Least, Greatest, Pattern, Required, UniqueItems, Silent}
 
 -- a name of a type
 abbrev pub IsTypeName : Tree → Type 0
@@ -38,6 +40,13 @@ AreNames vs = AllByRecursion (λ v. IsSome (as_string v)) vs × AreDistinct vs
 abbrev pub IsCount : Decimal → Type 0
 IsCount m = IsWhole m × (IsBelow m (whole (pos 0)) → ⊥)
 
+-- the form of a value that asks nothing
+abbrev pub IsOfForm : Form → Tree → Type 0
+IsOfForm Anything v = ⊤
+IsOfForm Text v = IsSome (as_string v)
+IsOfForm Truth v = IsSome (as_boolean v)
+IsOfForm Array v = IsSome (as_array v)
+
 -- the form of a keyword's value
 abbrev pub HasForm : Keyword → Tree → Type 0
 HasForm «Type» v = IsTypeName v ⊎ IsSomeAnd (as_array v) AreTypeNames
@@ -49,6 +58,7 @@ HasForm (Greatest measure) v = IsSomeAnd (as_number v) IsCount
 HasForm Pattern v = IsSome (as_string v)
 HasForm UniqueItems v = IsSome (as_boolean v)
 HasForm Required v = IsSomeAnd (as_array v) AreNames
+HasForm (Silent form) v = IsOfForm form v
 
 -- more than 128 containers stand in each other, the tree itself counted. This limit is this project's own.
 abbrev pub IsDeep : Tree → Type 0
@@ -70,6 +80,7 @@ KeepsDeep (Greatest measure) v = ⊥
 KeepsDeep Pattern v = ⊥
 KeepsDeep UniqueItems v = ⊥
 KeepsDeep Required v = ⊥
+KeepsDeep (Silent form) v = ⊥
 
 -- the value of `pattern` is a string that is no pattern
 abbrev pub IsNoPattern : Keyword → Tree → Type 0
@@ -122,6 +133,7 @@ TakesMemory (Greatest measure) v = ⊥
 TakesMemory Pattern v = IsSome (as_string v)
 TakesMemory UniqueItems v = ⊥
 TakesMemory Required v = IsSome (as_array v)
+TakesMemory (Silent form) v = ⊥
 
 -- reading the member's value takes memory
 abbrev pub IsCopied : List ℕ × Tree → Type 0

@@ -1,8 +1,8 @@
 -- When a document is valid under a keyword object: JSON Schema 2020-12, validation, sections 6.1.1 to 6.1.3 for `type`,
 -- `enum` and `const`, 6.2.2 to 6.2.5 for the four bounds of numbers, 6.3.1 to 6.3.3 for lengths and `pattern`, 6.4.1 to 6.4.3 for
--- counts of elements and `uniqueItems`, and 6.5.1 to 6.5.3 for counts of members and `required`. An object that has another keyword gets no
--- verdict (`Validity`).
-use Rattle.std.specs.Prelude.{ℕ, pos, ◌≡◌, ◌⊎◌, true, List, [], ◌∷◌, Option, Some, length, option_map, IsSome, IfSome}
+-- counts of elements and `uniqueItems`, and 6.5.1 to 6.5.3 for counts of members and `required`. Sections 9.1 to 9.5, and core 8.3, ask
+-- nothing of a document. An object that has another keyword gets no verdict (`Validity`).
+use Rattle.std.specs.Prelude.{ℕ, pos, ◌≡◌, ◌⊎◌, ⊤, true, List, [], ◌∷◌, Option, Some, length, option_map, IsSome, IfSome}
 use Rattle.std.specs.List.{AllByRecursion}
 use Rattle.json_model.specs.Decimal.{Decimal, IsBelow}
 use Rattle.json_model.specs.Parts.{as_array, as_boolean, as_number, as_object, as_string, elements_of, lookup, pairs_of, points}
@@ -18,7 +18,7 @@ use Rattle.judge.specs.Patterns.{Finds}
 use Rattle.judge.specs.declared.keyword.Measure.{Measure}
 use Rattle.judge.specs.declared.keyword.Measure.TheVariants.{CodePoints, Elements, Members}
 use Rattle.judge.specs.declared.keyword.Keyword.{Keyword}
-use Rattle.judge.specs.declared.keyword.Keyword.TheVariants.{«Type», Enum, Const, Bound, Least, Greatest, Pattern, Required, UniqueItems}
+use Rattle.judge.specs.declared.keyword.Keyword.TheVariants.{«Type», Enum, Const, Bound, Least, Greatest, Pattern, Required, UniqueItems, Silent}
 
 -- the tree is a string that names the type
 abbrev pub IsNameOf : JsonType → Tree → Type 0
@@ -67,6 +67,7 @@ Holds (Greatest measure) v d = IfSome (as_number v) (λ m. IfSome (count_of meas
 Holds Pattern v d = IfSome (as_string v) (λ s. IfSome (as_string d) (Finds s))
 Holds UniqueItems v d = as_boolean v ≡ Some true → IfSome (as_array d) IsUnique
 Holds Required v d = IfSome (as_object d) (λ ps. AllByRecursion (IsKeyOf ps) (elements_of v))
+Holds (Silent form) v d = ⊤
 
 abbrev pub HoldsAt : Tree → List ℕ × Tree → Type 0
 HoldsAt d p = IfSome (keyword_of p.0) (λ w. Holds w p.1 d)

@@ -21,7 +21,7 @@ use crate::meets::{
 };
 use crate::names::{meets_required, read_names};
 use crate::patterns::{meets_pattern, read_pattern};
-use crate::read::{read_bound, read_limit, read_truth, read_types};
+use crate::read::{read_bound, read_limit, read_silent, read_truth, read_types};
 use json_exact::{OutOfMemory, Value};
 use json_traits::types::JsonTypeSet;
 use json_traits::{Node, Object};
@@ -119,6 +119,7 @@ impl Checks {
             Keyword::Pattern => self.pattern = Some(read_pattern(alloc, value, member)?),
             Keyword::UniqueItems => self.unique = read_truth(value, member)?,
             Keyword::Required => self.required = Some(read_names(alloc, value, member)?),
+            Keyword::Silent(form) => read_silent(form, value, member)?,
         }
         Ok(())
     }

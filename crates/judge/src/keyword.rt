@@ -17,6 +17,19 @@ pub(crate) enum Measure {
     Members,
 }
 
+/// The form of a value that asks nothing of a document.
+#[derive(Clone, Copy, Debug, PartialEq, Eq)]
+pub(crate) enum Form {
+    /// Any value.
+    Anything,
+    /// A string.
+    Text,
+    /// A truth value.
+    Truth,
+    /// An array.
+    Array,
+}
+
 /// A keyword. Keywords that ask alike are one variant.
 #[derive(Clone, Copy, Debug, PartialEq, Eq)]
 pub(crate) enum Keyword {
@@ -38,6 +51,8 @@ pub(crate) enum Keyword {
     UniqueItems,
     /// An object has each of these keys: `required`.
     Required,
+    /// Nothing is asked of the document: `title` and its like, whose value has a form.
+    Silent(Form),
 }
 
 impl Keyword {
@@ -62,6 +77,14 @@ impl Keyword {
             "maxProperties" => Some(Keyword::Greatest(Measure::Members)),
             "pattern" => Some(Keyword::Pattern),
             "required" => Some(Keyword::Required),
+            "title" => Some(Keyword::Silent(Form::Text)),
+            "description" => Some(Keyword::Silent(Form::Text)),
+            "default" => Some(Keyword::Silent(Form::Anything)),
+            "examples" => Some(Keyword::Silent(Form::Array)),
+            "deprecated" => Some(Keyword::Silent(Form::Truth)),
+            "readOnly" => Some(Keyword::Silent(Form::Truth)),
+            "writeOnly" => Some(Keyword::Silent(Form::Truth)),
+            "$comment" => Some(Keyword::Silent(Form::Text)),
             _ => None,
         }
     }

@@ -11,7 +11,8 @@
 //! keyword object is refused, and mostly where, is a [`KeywordError`]. Nodes of one tree get one verdict ([`laws::one_verdict`]).
 //!
 //! The keywords are `type`, `enum`, `const`, the four bounds of numbers, the least and greatest counts of code points, elements and
-//! members, `uniqueItems`, `pattern` and `required`: all sixteen. A `pattern` is taken where it is literal, as `^x-` and `^(a|b)$`:
+//! members, `uniqueItems`, `pattern` and `required`. Eight more, as `title`, ask nothing. A `pattern` is taken where it is literal, as
+//! `^x-` and `^(a|b)$`:
 //! `jsonschema_regex` says which those are.
 //!
 //! [`run`] is the program. With no words it reads lines from a [`Source`], judges each, and writes one line of answer for each to a

@@ -1,14 +1,15 @@
 //! The values of keywords, read.
 
-ghost use Rattle.std.specs.Prelude.{◌≡◌, ◌↔◌, Some, IsSome, IsSomeAnd, MatchOption, MatchResult};
+ghost use Rattle.std.specs.Prelude.{◌≡◌, ◌↔◌, Some, IsSome, IsSomeAnd, IsTrue, MatchOption, MatchResult};
 ghost use Rattle.json_model.specs.Parts.{as_array, as_boolean, as_number};
 ghost use Rattle.json_traits.specs.declared.types.json_type.JsonType.{JsonType};
 ghost use Rattle.judge.specs.inner.Passes.{IsBadForm, IsBoundOf, IsLimitOf, IsSetOf, IsSetOfList};
-ghost use Rattle.judge.specs.Validity.{AreTypeNames, HasForm, IsCount};
+ghost use Rattle.judge.specs.Validity.{AreTypeNames, HasForm, IsCount, IsOfForm};
 ghost use Rattle.judge.specs.Verdict.{IsNameOf};
 ghost use Rattle.judge.specs.declared.keyword.Keyword.TheVariants as keywords;
 
 use crate::errors::KeywordError;
+use crate::keyword::Form;
 use crate::limits::Limit;
 use json_semantics::numeric_check::{BoundOp, CompiledBound, compile_bound};
 use json_traits::types::{JsonType, JsonTypeSet};
@@ -91,6 +92,36 @@ pub(crate) fn read_truth<'a, N: Node<'a>>(value: &N, member: usize) -> Result<bo
     match value.as_boolean() {
         Some(truth) => Ok(truth),
         None => Err(KeywordError::BadKeyword { member }),
+    }
+}
+
+/// Looks at a value that asks nothing of a document.
+pub(crate) fn read_silent<'a, N: Node<'a>>(
+    form: Form,
+    value: &N,
+    member: usize,
+) -> Result<(), KeywordError>
+    ensures { MatchResult result
+        (λ _. IsOfForm form (N.tree value.now))
+        (IsBadForm member (IsOfForm form (N.tree value.now))) }
+{
+    if is_of_form(form, value) {
+        Ok(())
+    } else {
+        Err(KeywordError::BadKeyword { member })
+    }
+}
+
+/// Whether a value is of a form.
+#[tactic(auto, using(json_model::proofs::KindLaws::array_some, json_model::proofs::KindLaws::array_none))]
+fn is_of_form<'a, N: Node<'a>>(form: Form, value: &N) -> bool
+    ensures { IsTrue result ↔ IsOfForm form (N.tree value.now) }
+{
+    match form {
+        Form::Anything => true,
+        Form::Text => value.is_string(),
+        Form::Truth => value.as_boolean().is_some(),
+        Form::Array => value.as_array().is_some(),
     }
 }
 

@@ -32,7 +32,7 @@ use Rattle.judge.specs.declared.limits.Limits.{Limits}
 use Rattle.judge.specs.declared.errors.KeywordError.{KeywordError}
 use Rattle.judge.specs.declared.errors.KeywordError.TheVariants.{NotAnObject, UnknownKeyword, BadKeyword, BadPattern, PatternNotLiteral, TooDeep, OutOfMemory}
 use Rattle.judge.specs.declared.keyword.Keyword.{Keyword}
-use Rattle.judge.specs.declared.keyword.Keyword.TheVariants.{«Type», Enum, Const, Bound, Least, Greatest, Pattern, Required, UniqueItems}
+use Rattle.judge.specs.declared.keyword.Keyword.TheVariants.{«Type», Enum, Const, Bound, Least, Greatest, Pattern, Required, UniqueItems, Silent}
 use Rattle.judge.specs.declared.keyword.Measure.{Measure}
 use Rattle.judge.specs.declared.keyword.Measure.TheVariants.{CodePoints, Elements, Members}
 
@@ -162,6 +162,7 @@ IsFree (Greatest measure) c = (limits_at measure c).greatest ≡ None
 IsFree Pattern c = c.pattern ≡ None
 IsFree UniqueItems c = c.unique ≡ false
 IsFree Required c = c.required ≡ None
+IsFree (Silent form) c = ⊤
 
 -- new checks what old checks, and what the keyword w with the value v asks
 pub record Adds (old : Checks) (w : Keyword) (v : Tree) (new : Checks) : Type 0 where

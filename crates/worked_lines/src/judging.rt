@@ -32,12 +32,14 @@ fn each_checked<'a, K: Node<'a>, M: Node<'a>>(
         return Err(KeywordError::NotAnObject);
     };
     let mut all = true;
-    for (member, (name, value)) in object.members().enumerate() {
+    let mut member = 0usize;
+    for (name, value) in object.members() {
         let checks = Checks::of_member(alloc, name, &value, member)?;
         match checks.check(alloc, document) {
             Ok(answer) => all = all && answer,
             Err(_) => return Err(KeywordError::OutOfMemory),
         }
+        member = member.wrapping_add(1);
     }
     Ok(all)
 }

@@ -31,6 +31,9 @@
 //! A [`LiteralPattern`] keeps an analysis and asks texts. [`laws`] says that each literal pattern is a pattern, and that its analysis hits a text
 //! exactly where the pattern's tree matches some part of the text. [`pattern_as_prefix`] gives the text of a `Prefix` alone, and [`is_ecma_whitespace`] and
 //! [`contains_ecma_whitespace`] know the characters of `\s`.
+//!
+//! [`to_rust_regex`] gives a pattern in the syntax of the crate `regex`, or a [`TranslateError`], and [`pattern_witness`] a text that a
+//! pattern matches. Both are those of `pattern_translation`.
 #![tactic(auto)]
 
 mod analysis;
@@ -47,6 +50,7 @@ mod whitespace;
 pub use analysis::{analyze_pattern, pattern_as_prefix};
 pub use literal_pattern::LiteralPattern;
 pub use pattern_analysis::PatternAnalysis;
+pub use pattern_translation::{TranslateError, pattern_witness, to_rust_regex};
 pub use pattern_tree::OutOfMemory;
 pub use validity::is_valid_ecma_regex;
 pub use whitespace::{contains_ecma_whitespace, is_ecma_whitespace};

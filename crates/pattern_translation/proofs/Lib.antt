@@ -3,3 +3,7 @@ pub mod WitnessLaws
 pub mod EscapeLaws
 pub mod NameLaws
 pub mod PatternWitness
+pub mod CopyLaws
+pub mod ClassWriting
+pub mod TokenWriting
+pub mod OneText

@@ -4,3 +4,7 @@ pub mod Texts
 pub mod Facts
 pub mod Names
 pub mod Causes
+pub mod Written
+pub mod Translation
+pub mod TranslateErrors
+pub mod inner

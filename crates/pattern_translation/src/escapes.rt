@@ -6,27 +6,7 @@ ghost use Rattle.pattern_model.specs.Text.{is_at};
 ghost use Rattle.pattern_model.specs.Members.{is_within};
 ghost use Rattle.pattern_translation.specs.Refusals.{is_surrogate, past_zeros, is_surrogate_in_braces, names_surrogate, is_other_escape, has_other_escape};
 
-use crate::text::split_first;
-
-fn is_at(c: char, text: &str) -> bool
-    ensures { result ≡ is_at c (chars text.now) }
-{
-    match split_first(text) {
-        None => false,
-        Some((d, _)) => d == c,
-    }
-}
-
-/// What follows the first character.
-fn rest(text: &str) -> &str
-    ensures value { chars result.now ≡ drop 1 (chars text.now) }
-    ensures len { length result.now ≤ length text.now }
-{
-    match split_first(text) {
-        None => text,
-        Some((_, rest)) => rest,
-    }
-}
+use crate::text::{is_at, rest, split_first};
 
 fn is_within(first: char, last: char, c: char) -> bool
     ensures { result ≡ is_within first last c }

@@ -1,0 +1,51 @@
+//! The text for Rust of a pattern.
+
+ghost use Rattle.std.specs.Prelude.{◌≡◌, ◌<◌, ◌^◌, length, IfOk, IfErr};
+ghost use Rattle.std.specs.Str.{chars};
+ghost use Rattle.std.specs.Cow.{cow_str_bytes};
+ghost use lib.Utf8.{encodes};
+ghost use Rattle.pattern_model.specs.Text.{Text};
+ghost use Rattle.pattern_translation.specs.Translation.{Translates};
+ghost use Rattle.pattern_translation.specs.TranslateErrors.{IsCause};
+
+use crate::facts::tree_facts;
+use crate::pattern_text::write_pattern;
+use crate::refusal::{Cause, find_cause};
+use crate::translate_error::TranslateError;
+use pattern_tree::read_widened;
+use std::alloc::Global;
+use std::borrow::CowStr;
+
+/// The pattern in the syntax of the crate `regex`: `^[\d--a]\cA$` is written as `^[[0-9]\-\-a]`, the character U+0001 and `$`. The
+/// pattern has fewer than 2^30 bytes, and is borrowed where its text is the same.
+///
+/// The pattern is read by the widened grammar. Changed are class escapes, `\c` and a letter, `\0`, `\<`, `\>`, the escapes in the
+/// names of groups, and in a class `[`, doubled `&` and `~`, and hyphens beside hyphens; all else is copied. What `.`, `\b`, `\B`,
+/// modifiers and property escapes then mean is not told here.
+///
+/// It takes memory for the tree and for the text.
+pub fn to_rust_regex<'a>(alloc: Global, pattern: &'a str) -> Result<CowStr<'a>, TranslateError>
+    requires { length pattern.now < 2 ^ 30 }
+    ensures translated { IfOk result (λ s. (w : Text) × Translates (chars pattern.now) w
+        × (cow_str_bytes s ≡ encodes w)) }
+    ensures refused { IfErr result (λ e. IsCause e (chars pattern.now)) }
+{
+    let Some(tree) = read_widened(alloc, pattern)? else {
+        return Err(TranslateError::Invalid);
+    };
+    let facts = tree_facts(alloc, &tree)?;
+    let cause = find_cause(alloc, pattern, &tree, facts)?;
+    match cause {
+        Some(Cause::LookAround) => Err(TranslateError::LookAround),
+        Some(Cause::BackReference) => Err(TranslateError::BackReference),
+        Some(Cause::Unsupported) => Err(TranslateError::Unsupported),
+        None => {
+            let text = write_pattern(alloc, pattern)?;
+            if text.as_str() == pattern {
+                Ok(CowStr::Borrowed(pattern))
+            } else {
+                Ok(CowStr::Owned(text))
+            }
+        }
+    }
+}

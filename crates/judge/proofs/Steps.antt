@@ -49,7 +49,7 @@ cut_parts : (piece front rest part after : List ℕ) → piece ≡ front ++ rest
 cut_parts piece front rest part after e cut =
     e ∙ ap (λ t. front ++ t) (cut ∙ sym (append_assoc part (10 ∷ []) after)) ∙ sym (append_assoc front (part ++ 10 ∷ []) after)
 
--- a part that can't be held isn't empty
+-- a part that cannot be held is not empty
 some_part : {T : Type 0} (line now part : List ℕ) (status : Status) → Extends {T = T} line now part (Err status) → IsOpenLine line
     → 0 < length (line ++ part)
 some_part line now part status step is_open =
@@ -95,7 +95,7 @@ module _ {A : List ℕ → List ℕ → Type 0} where
       let whole : piece ≡ puts.front = puts.parts ∙ ap (λ t. puts.front ++ t) none ∙ append-nil puts.front in
       record { is_open = is_open; text = puts.front; writes = puts.appends; answers = subst (λ t. AnswersOne A line t) whole a }
 
-  -- a line that can't be held
+  -- a line that cannot be held
   pub stopped_extending : {T : Type 0} (line now part : List ℕ) (result : Result T Status) (status : Status) (told : Option (List ℕ))
       → result ≡ Err status → Extends line now part result → StoppedAt A (line ++ part) told told status
   stopped_extending line now part result status told e step =
@@ -238,7 +238,7 @@ module _ {A : List ℕ → List ℕ → Type 0} where
       let stopped = stopped_first (b ++ rest) (b ++ rest) [] v v status alone (stopped_extending b c rest (Err status) status v refl step) in
       rw f.parts (stopped_later a f.front b rest u v v status f.feeds stopped)
 
--- a line that has no end and isn't empty was answered, or stopped the run
+-- a line that has no end and is not empty was answered, or stopped the run
 pub rest_answered : (A : List ℕ → List ℕ → Type 0) {T : Type 0} (line : List ℕ) (u v : Option (List ℕ)) (result : Result T Status)
     → 0 < length line
     → OnOk result (Answered A line u v) → OnOk result (AnswersRest A line u v)

@@ -27,7 +27,7 @@ pub Lacks-append : (c : ℕ) (a b : List ℕ) → Lacks c a → Lacks c b → La
 Lacks-append c [] b h g = g
 Lacks-append c (x ∷ a) b h g = (h.0, Lacks-append c a b h.1 g)
 
--- what has the byte doesn't lack it
+-- what has the byte does not lack it
 pub Lacks-cut : (c : ℕ) (a b : List ℕ) → Lacks c (a ++ c ∷ b) → ⊥
 Lacks-cut c [] b h = h.0 refl
 Lacks-cut c (x ∷ a) b h = Lacks-cut c a b h.1
@@ -70,7 +70,7 @@ lines_of-open : (b : ℕ) (l : List ℕ) → IsOneLine (b ∷ l) → lines_of (b
 lines_of-open b [] h = other b [] h.0
 lines_of-open b (c ∷ l) h = other b (c ∷ l) h.0 ∙ ap (onto_first b) (lines_of-open c l h.1)
 
--- a line with no end is the one line of its text, if it isn't empty
+-- a line with no end is the one line of its text, if it is not empty
 pub lines_of-alone : (l : List ℕ) → IsOneLine l → 0 < length l → lines_of l ≡ l ∷ []
 lines_of-alone [] h some = absurd (omega arith)
 lines_of-alone (b ∷ l) h some = lines_of-open b l h

@@ -8,7 +8,7 @@ use Rattle.judge.specs.declared.stream.SinkError.TheVariants.{Failed, OutOfMemor
 abbrev pub Rose : ℕ → ℕ → Type 0
 Rose before now = min (before + 1) (2 ^ 64 - 1) ≤ now
 
--- the count doesn't fall, and an error comes only where it rose
+-- the count does not fall, and an error comes only where it rose
 pub record HasCause {T E : Type 0} (before now : ℕ) (result : Result T E) : Type 0 where
   pub later : before ≤ now
   pub failed : OnErr result (Rose before now)

@@ -65,7 +65,7 @@ pub(crate) fn finish<C: Command, K: Sink>(
 }
 
 // Answers the line that ends with this part, and empties it. A line that lies whole in the part
-// isn't copied.
+// is not copied.
 fn end_line<C: Command, K: Sink>(
     command: &C,
     alloc: Global,

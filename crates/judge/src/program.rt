@@ -57,7 +57,7 @@ pub fn run<S: Source, K: Sink>(
     ensures last_read { result ≡ Status.ReadFault → S.last_failed source.new }
     ensures last_write { result ≡ Status.WriteFault → K.last_failed sink.new }
 
-    // With good words, streams that don't fail and an input within the limits, it is done.
+    // With good words, streams that do not fail and an input within the limits, it is done.
     ensures complete { (input : List ℕ) → S.left source.old ≡ Some input
         → AreShort (lines_of input)
         → length input < 2 ^ 48

@@ -37,7 +37,7 @@ pub trait Source {
     /// That the last read failed, where it tells it.
     ghost last_failed: { Self → Type 0 } = { λ _. Unit {0} };
 
-    /// Puts the next bytes into the front of the buffer, and gives their number. 0 in a buffer that isn't empty is the
+    /// Puts the next bytes into the front of the buffer, and gives their number. 0 in a buffer that is not empty is the
     /// end. After `Failed` nothing was taken, and the buffer may hold anything.
     fn read(&mut self, buffer: &mut [u8]) -> Result<usize, Failed>
         ensures bound { ReadsAtMost result buffer.new }
@@ -62,7 +62,7 @@ pub trait Sink {
     /// That the last write failed, where it tells it.
     ghost last_failed: { Self → Type 0 } = { λ _. Unit {0} };
 
-    /// Appends a front of the piece, and gives its length, at least 1 for a piece that isn't empty. An error appended
+    /// Appends a front of the piece, and gives its length, at least 1 for a piece that is not empty. An error appended
     /// nothing.
     fn write(&mut self, piece: &[u8]) -> Result<usize, SinkError>
         ensures bound { WritesAtMost result piece.now }

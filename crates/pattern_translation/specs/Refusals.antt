@@ -75,7 +75,7 @@ shares seen (n ∷ ns) = seen n || shares (λ q. seen q || bytes_eq n q) ns
 abbrev pub shares_name : Tree → Bool
 shares_name t = shares (λ q. false) (names t)
 
--- The numbers from D800 to DFFF are those of four hex digits that begin with D8 to DF.
+-- The surrogates are the numbers of four hex digits that begin with d8 to df.
 abbrev pub is_surrogate : Text → Bool
 is_surrogate (a ∷ b ∷ x) = (a == 68 || a == 100) && (is_within 56 57 b || (is_within 65 70 b || is_within 97 102 b))
 is_surrogate _ = false

@@ -24,7 +24,7 @@ pub record Puts {T E : Type 0} (before now : Option (List ℕ)) (piece : List �
   pub all : OnOk result (back ≡ [])
   pub missing : OnErr result (0 < length back)
 
--- the count of faults doesn't fall, and a write fault comes only where it rose
+-- the count of faults does not fall, and a write fault comes only where it rose
 pub record WriteCause {T : Type 0} (before now : ℕ) (result : Result T Status) : Type 0 where
   pub later : before ≤ now
   pub failed : IsErrOf result WriteFault → Rose before now
@@ -72,7 +72,7 @@ pub record Feeds (IsAnswer : List ℕ → List ℕ → Type 0) (open_before piec
   pub answers : Answers IsAnswer ended text
   pub writes : Appends before now text
 
--- the line that has no end was answered, if it isn't empty
+-- the line that has no end was answered, if it is not empty
 pub record AnswersRest (IsAnswer : List ℕ → List ℕ → Type 0) (line : List ℕ) (before now : Option (List ℕ)) : Type 0 where
   pub text : List ℕ
   pub writes : Appends before now text

@@ -1,10 +1,10 @@
 -- A pattern has one text for Rust.
-use Rattle.std.proofs.Common.{◌≡◌, ℕ, Bool, true, false, List, [], ◌∷◌, ◌++◌, drop, Some, refl, ap, sym, ◌∙◌, subst}
+use Rattle.std.proofs.Common.{◌≡◌, ℕ, Bool, true, false, List, [], ◌∷◌, ◌++◌, drop, refl, ap, sym, ◌∙◌, subst}
 use Rattle.std.specs.Prelude.{◌==◌}
 use Rattle.std.proofs.lemmas.List.{append_cancel_right}
 use Rattle.pattern_model.specs.Text.{Text, is_at}
 use Rattle.pattern_model.specs.Tree.{Token, tokens_of}
-use Rattle.pattern_model.specs.Classes.{Atom, class_atom, makes_range, has_hyphens}
+use Rattle.pattern_model.specs.Classes.{Atom, makes_range, has_hyphens}
 use Rattle.pattern_model.specs.Tokens.{token_from}
 use Rattle.pattern_tree.proofs.Leads.{one_spelled}
 use Rattle.pattern_translation.specs.Written.{atom_written}

@@ -45,7 +45,7 @@ fn each_checked<'a, K: Node<'a>, M: Node<'a>>(
 }
 
 // The value that the bytes stand for, where it nests at most 128 containers.
-fn value_of(alloc: Global, bytes: &[u8]) -> Option<Value> {
+pub(crate) fn value_of(alloc: Global, bytes: &[u8]) -> Option<Value> {
     let root = Jsonb::root(alloc, bytes).ok()?;
     root.to_value(alloc).ok()?.into_owned(alloc).ok()
 }
@@ -69,7 +69,7 @@ fn answers_in_memory(
 }
 
 // A verdict, or what its error shows: its name, and its fields.
-fn shown<E: Display + Debug>(alloc: Global, answer: &Result<bool, E>) -> Option<String> {
+pub(crate) fn shown<E: Display + Debug>(alloc: Global, answer: &Result<bool, E>) -> Option<String> {
     match answer {
         Ok(true) => String::from_str(alloc, "valid").ok(),
         Ok(false) => String::from_str(alloc, "invalid").ok(),

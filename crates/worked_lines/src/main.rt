@@ -15,6 +15,7 @@ mod encoding;
 mod judging;
 mod maps;
 mod names;
+mod nested;
 mod nodes;
 mod numbers;
 mod patterns;
@@ -44,6 +45,7 @@ fn answer(alloc: Global, line: &str) -> Option<String> {
         "conforms" => nodes::conforms(alloc, rest),
         "judge" => judging::verdict(alloc, rest),
         "deep" => judging::deep(alloc, rest),
+        "nested" => nested::verdict(alloc, rest),
         "cuts" => judging::cuts(alloc, rest),
         "changes" => judging::changes(alloc, rest),
         "json" => encoding::json(alloc, rest),

@@ -29,7 +29,8 @@ frugal_any [] h = tt
 frugal_any (x ∷ xs) h = (h.0, frugal_any xs h.1)
 
 module _ {X : Type 0} (xs : List X) (k : ℕ) (now : List Asked) where
-  module _ (x : X) (back : drop k xs ≡ x ∷ drop (k + 1) xs) (a : Asked) (more : List Asked) (is : more ≡ now ++ a ∷ []) (m : ℕ) (next : m ≡ k + 1) where
+  module _ (x : X) (back : drop k xs ≡ x ∷ drop (k + 1) xs) (a : Asked) (more : List Asked) (is : more ≡ now ++ a ∷ []) (m : ℕ)
+      (next : m ≡ k + 1) where
     module _ (Rest : List X → Type 0) (One : X → Type 0) where
       module _ (d : Tree) (Q : Type 0) (here : Means a d ↔ One x) where
         -- the formulas so far and the rest decide on all, and so do one more and what is left then

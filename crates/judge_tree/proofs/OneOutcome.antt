@@ -76,7 +76,8 @@ flat_once n m i p (went a) (went b) h k = ap went (h.1 ∙ sym k.1)
 flat_once n m i p (went a) (stopped f) h k = absurd (fair_alone n m p f h.0 k)
 flat_once n m i p (stopped e) (went b) h k = absurd (fair_alone n m p e k.0 h)
 flat_once n m i p (stopped e) (stopped f) h k =
-    let same = err_is (kind e) (kind f) (one_on_trees (single p) (single p) (Err (kind e)) (Err (kind f)) (has_kind n m p e h) (has_kind n m p f k)) in
+    let same = err_is (kind e) (kind f) (one_on_trees (single p) (single p) (Err (kind e)) (Err (kind f)) (has_kind n m p e h)
+    (has_kind n m p f k)) in
     ap stopped (by_kind n m p e h ∙ ap (flat_error n m) same ∙ sym (by_kind n m p f k))
 
 -- ---- members and schemas

@@ -19,5 +19,6 @@ asks_not f = ap asked (sym (rolls-Not f)) ∙ fold-roll-Formula Asked asked_step
 pub asks_member : (n : String Global) (f : Box Formula Global) → asked (Member n f) ≡ at_key (string_bytes n) (asked f.value)
 asks_member n f = ap asked (sym (rolls-Member n f)) ∙ fold-roll-Formula Asked asked_step (Formula-F.Member n f)
 
-pub asks_others : (ns : Vec (String Global) Global) (f : Box Formula Global) → asked (Others ns f) ≡ at_others (map string_bytes ns.items) (asked f.value)
+pub asks_others : (ns : Vec (String Global) Global) (f : Box Formula Global) → asked (Others ns f) ≡ at_others
+    (map string_bytes ns.items) (asked f.value)
 asks_others ns f = ap asked (sym (rolls-Others ns f)) ∙ fold-roll-Formula Asked asked_step (Formula-F.Others ns f)

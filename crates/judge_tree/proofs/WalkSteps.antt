@@ -42,7 +42,8 @@ object_is_built t u n r e h =
     let ps = pairs_of t in
     let W = WalksEach (members_from ps) n 0 (n + 1) in
     subst (λ (w : Tree). MatchResult r (IsBuilt (IsValidUnder w) (NeverAsks w) (Walks w n)) (Stops (Walks w n))) (sym (object_shape t u e))
-    (subst (λ (qs : List (List ℕ × Tree)). MatchResult r (IsBuilt (MeetsEach (property_names qs) (members_from ps)) (NoMemberAsks (members_from ps)) W) (Stops W))
+    (subst (λ (qs : List (List ℕ × Tree)). MatchResult r (IsBuilt (MeetsEach (property_names qs) (members_from ps))
+    (NoMemberAsks (members_from ps)) W) (Stops W))
     (sym (pairs_in_from ps)) h)
 
 -- the value of `properties` is compiled where the schemas in it are

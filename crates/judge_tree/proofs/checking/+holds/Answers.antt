@@ -42,7 +42,8 @@ elements_hold-loop-element-preserved g t c =
       can = c.in-Some-element.ensures.goes.keeps;
       ends = (c.in-Some-element.ensures.goes.on c.loop-element.invariant.ends).1;
       left = simp length-append r.1;
-      decides = simp length-append (goes_on (Means (asked c.args.formula.now)) (elements_of d) k _ c.loop-element.invariant.decides _ r.0.back (c.in-Ok-true.ensures.right.0 c.in-Ok-true.field-0-test));
+      decides = simp length-append (goes_on (Means (asked c.args.formula.now)) (elements_of d) k _
+          c.loop-element.invariant.decides _ r.0.back (c.in-Ok-true.ensures.right.0 c.in-Ok-true.field-0-test));
     }
 
 pub elements_hold-returns-in-Ok-false-clause-right : goal.elements_hold-returns-in-Ok-false-clause-right
@@ -51,14 +52,16 @@ elements_hold-returns-in-Ok-false-clause-right g t c =
     let k = length c.loop-element.yielded in
     let r = left_item {j = c.next.new.self} (elements_of d) k c.loop-element.invariant.left c.in-Some-element.ensures.steps in (
       λ h. absurd cc,
-      λ q. absurd (stops (Means (asked c.args.formula.now)) (elements_of d) k _ c.loop-element.invariant.decides _ r.0.back (λ p. let e : true ≡ false = sym (c.in-Ok-false.ensures.right.1 p) ∙ c.in-Ok-false.field-0-test in cc) q),
+      λ q. absurd (stops (Means (asked c.args.formula.now)) (elements_of d) k _ c.loop-element.invariant.decides _ r.0.back
+          (λ p. let e : true ≡ false = sym (c.in-Ok-false.ensures.right.1 p) ∙ c.in-Ok-false.field-0-test in cc) q),
     )
 
 pub elements_hold-returns-clause-right : goal.elements_hold-returns-clause-right
 elements_hold-returns-clause-right g t c =
     let d = g.F.Node.HasTree.tree c.args.node.now in
     let k = length c.loop-element.yielded in
-    let all = ends (Means (asked c.args.formula.now)) (elements_of d) k _ c.loop-element.invariant.decides (left_end {u = c.next.new.self} (elements_of d) k c.loop-element.invariant.left c.in-None.ensures.steps) in
+    let all = ends (Means (asked c.args.formula.now)) (elements_of d) k _ c.loop-element.invariant.decides (left_end {u =
+    c.next.new.self} (elements_of d) k c.loop-element.invariant.left c.in-None.ensures.steps) in
     (λ _. all, λ _. refl)
 
 pub others_hold-loop-member-preserved : goal.others_hold-loop-member-preserved
@@ -70,7 +73,9 @@ others_hold-loop-member-preserved g t c =
       can = c.in-Some-member.ensures.goes.keeps;
       ends = (c.in-Some-member.ensures.goes.on c.loop-member.invariant.ends).1;
       left = simp length-append r.1;
-      decides = simp length-append (goes_on (λ p. IsOneOf (map string_bytes c.args.names.now) p.0 ⊎ Means (asked c.args.formula.now) p.1) (pairs_of d) k _ c.loop-member.invariant.decides _ r.0.back (c.in-Ok-true.ensures.right.0 c.in-Ok-true.field-0-test));
+      decides = simp length-append (goes_on (λ p. IsOneOf (map string_bytes c.args.names.now) p.0 ⊎ Means (asked
+          c.args.formula.now) p.1) (pairs_of d) k _ c.loop-member.invariant.decides _ r.0.back (c.in-Ok-true.ensures.right.0
+          c.in-Ok-true.field-0-test));
     }
 
 pub others_hold-returns-in-Ok-false-clause-right : goal.others_hold-returns-in-Ok-false-clause-right
@@ -79,12 +84,16 @@ others_hold-returns-in-Ok-false-clause-right g t c =
     let k = length c.loop-member.yielded in
     let r = left_item {j = c.next.new.self} (pairs_of d) k c.loop-member.invariant.left c.in-Some-member.ensures.steps in (
       λ h. absurd cc,
-      λ q. absurd (stops (λ p. IsOneOf (map string_bytes c.args.names.now) p.0 ⊎ Means (asked c.args.formula.now) p.1) (pairs_of d) k _ c.loop-member.invariant.decides _ r.0.back (λ p. let e : true ≡ false = sym (c.in-Ok-false.ensures.right.1 p) ∙ c.in-Ok-false.field-0-test in cc) q),
+      λ q. absurd (stops (λ p. IsOneOf (map string_bytes c.args.names.now) p.0 ⊎ Means (asked c.args.formula.now) p.1)
+          (pairs_of d) k _ c.loop-member.invariant.decides _ r.0.back (λ p. let e : true ≡ false = sym
+          (c.in-Ok-false.ensures.right.1 p) ∙ c.in-Ok-false.field-0-test in cc) q),
     )
 
 pub others_hold-returns-clause-right : goal.others_hold-returns-clause-right
 others_hold-returns-clause-right g t c =
     let d = g.F.Node.HasTree.tree c.args.node.now in
     let k = length c.loop-member.yielded in
-    let all = ends (λ p. IsOneOf (map string_bytes c.args.names.now) p.0 ⊎ Means (asked c.args.formula.now) p.1) (pairs_of d) k _ c.loop-member.invariant.decides (left_end {u = c.next.new.self} (pairs_of d) k c.loop-member.invariant.left c.in-None.ensures.steps) in
+    let all = ends (λ p. IsOneOf (map string_bytes c.args.names.now) p.0 ⊎ Means (asked c.args.formula.now) p.1)
+    (pairs_of d) k _ c.loop-member.invariant.decides (left_end {u = c.next.new.self} (pairs_of d) k
+    c.loop-member.invariant.left c.in-None.ensures.steps) in
     (λ _. all, λ _. refl)

@@ -32,8 +32,8 @@
 //! exactly where the pattern's tree matches some part of the text. [`pattern_as_prefix`] gives the text of a `Prefix` alone, and [`is_ecma_whitespace`] and
 //! [`contains_ecma_whitespace`] know the characters of `\s`.
 //!
-//! [`to_rust_regex`] gives a pattern in the syntax of the crate `regex`, or a [`TranslateError`], and [`pattern_witness`] a text that a
-//! pattern matches. Both are those of `pattern_translation`.
+//! [`to_rust_regex`] writes a pattern for the crate `regex`, or gives a [`TranslateError`]. [`pattern_witness`] gives a text that a pattern
+//! matches where `^`, `$`, `\b` and `\B` are read as empty. Both are those of `pattern_translation`.
 #![tactic(auto)]
 
 mod analysis;

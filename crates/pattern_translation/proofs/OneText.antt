@@ -43,21 +43,25 @@ same_part b x l y v m z w (WritesPart.single {a = a} p h r e) (WritesPart.hyphen
     absurd (clash (has_hyphens true) (c, t) (a, y) (sym (ap (λ s. (s, y)) j ∙ ap (λ s. (c, s)) o)) k h)
 same_part b x l y v m z w (WritesPart.range {a = c} {b = d} {z = t} {v = u} {u = o} q k s f g n) (WritesPart.single {a = a} p h r e) =
     absurd (clash makes_range t z (same_atom b x t z u w c a q p).1 s r)
-same_part b x l y v m z w (WritesPart.range {a = a} {b = c} {z = t} {v = u} {u = o} p h r e g n) (WritesPart.range {a = d} {b = f} {z = k} {v = q} {u = s} i j aa bb c2 dd) =
+same_part b x l y v m z w (WritesPart.range {a = a} {b = c} {z = t} {v = u} {u = o} p h r e g n)
+    (WritesPart.range {a = d} {b = f} {z = k} {v = q} {u = s} i j aa bb c2 dd) =
     let (ee, ff, gg) = same_atom b x t k u q a d p i in
     let hh : l ≡ m = e ∙ (ap (drop 1) ff ∙ sym bb) in
     let (ii, jj, kk) = same_next t k l m y z o s c f ff hh g c2 in
     (hh, jj, n ∙ (ap (λ z. z ++ (45 ∷ o)) gg ∙ (ap (λ z. q ++ (45 ∷ z)) kk ∙ sym dd)))
-same_part b x l y v m z w (WritesPart.range {a = a} {b = c} {z = t} {v = u} {u = o} p h r e g n) (WritesPart.hyphens {a = d} {z = k} {v = q} {u = s} {t = f} i j aa bb dd) =
+same_part b x l y v m z w (WritesPart.range {a = a} {b = c} {z = t} {v = u} {u = o} p h r e g n)
+    (WritesPart.hyphens {a = d} {z = k} {v = q} {u = s} {t = f} i j aa bb dd) =
     let (ee, ff, gg) = same_atom b x t k u q a d p i in
     absurd (clash (has_hyphens true) (d, k) (a, t) (sym (ap (λ s. (s, t)) ee ∙ ap (λ s. (d, s)) ff)) j h)
 same_part b x l y v m z w (WritesPart.hyphens {a = a} {z = t} {v = u} {u = o} {t = n} p h g i e) (WritesPart.single {a = c} q k s f) =
     let (j, o, n) = same_atom b x t z u w a c p q in
     absurd (clash (has_hyphens true) (a, t) (c, z) (ap (λ s. (s, t)) j ∙ ap (λ s. (c, s)) o) h k)
-same_part b x l y v m z w (WritesPart.hyphens {a = d} {z = k} {v = q} {u = s} {t = f} i j aa bb dd) (WritesPart.range {a = a} {b = c} {z = t} {v = u} {u = o} p h r e g n) =
+same_part b x l y v m z w (WritesPart.hyphens {a = d} {z = k} {v = q} {u = s} {t = f} i j aa bb dd)
+    (WritesPart.range {a = a} {b = c} {z = t} {v = u} {u = o} p h r e g n) =
     let (ee, ff, gg) = same_atom b x k t q u d a i p in
     absurd (clash (has_hyphens true) (d, k) (a, t) (ap (λ s. (s, k)) ee ∙ ap (λ s. (a, s)) ff) j h)
-same_part b x l y v m z w (WritesPart.hyphens {a = a} {z = t} {v = u} {u = o} {t = n} p h g i e) (WritesPart.hyphens {a = c} {z = k} {v = q} {u = s} {t = f} j r aa bb dd) =
+same_part b x l y v m z w (WritesPart.hyphens {a = a} {z = t} {v = u} {u = o} {t = n} p h g i e)
+    (WritesPart.hyphens {a = c} {z = k} {v = q} {u = s} {t = f} j r aa bb dd) =
     let (ee, ff, gg) = same_atom b x t k u q a c p j in
     let (hh, ii, jj) = same_next x x t k l m o s (Atom.code 45) (Atom.code 45) refl ff g aa in
     let (kk, ll, mm) = same_next t k l m y z n f (Atom.code 45) (Atom.code 45) ff ii i bb in
@@ -67,7 +71,8 @@ same_items : (b x e v w : Text) → WritesItems b x e v → WritesItems b x e w 
 same_items b x e v w (WritesItems.closes p q r) (WritesItems.closes s t u) = r ∙ sym u
 same_items b x e v w (WritesItems.closes p q r) (WritesItems.goes_on s t u n) = absurd (clash (is_at 93) x x refl p s)
 same_items b x e v w (WritesItems.goes_on s t u n) (WritesItems.closes p q r) = absurd (clash (is_at 93) x x refl p s)
-same_items b x e v w (WritesItems.goes_on {last = l} {y = y} {v = o} {u = i} p q r n) (WritesItems.goes_on {last = m} {y = z} {v = s} {u = j} t u k f) =
+same_items b x e v w (WritesItems.goes_on {last = l} {y = y} {v = o} {u = i} p q r n)
+    (WritesItems.goes_on {last = m} {y = z} {v = s} {u = j} t u k f) =
     let (ll, yy, oo) = same_part b x l y o m z s q u in
     let ii = same_items m z e i j (subst (λ t. WritesItems t z e i) ll (subst (λ t. WritesItems l t e i) yy r)) k in
     n ∙ (ap (λ t. t ++ i) oo ∙ (ap (λ t. s ++ t) ii ∙ sym f))
@@ -77,7 +82,8 @@ same_token true t c x y v w (i, p, e) (j, q, f) = e ∙ (ap (λ z. opening x ++ 
 same_token false t c x y v w (own, p, e) (other, q, f) =
     e ∙ (ap (λ z. token_written t (c ∷ x) z) (same_own (c ∷ x) own other y y p q refl) ∙ sym f)
 
-same_text : (x : Text) (ts : List Token) (v w : Text) → Writes x ts v → Writes x ts w → v ≡ w
+-- tokens have one text
+pub same_text : (x : Text) (ts : List Token) (v w : Text) → Writes x ts v → Writes x ts w → v ≡ w
 same_text x [] v w (e, p) (f, q) = p ∙ sym q
 same_text x (t ∷ ts) v w (c, a, r, i, j, e, p, k, n, f) (d, b, s, g, h, o, q, l, m, u) =
     let (cd, ab) = heads c d a b (sym e ∙ o) in

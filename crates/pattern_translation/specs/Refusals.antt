@@ -1,5 +1,5 @@
--- Which patterns have no translation to the pattern syntax of Rust, and why. The causes are this project's own; they are what
--- that syntax lacks (the documentation of the crate `regex`, section "Syntax").
+-- Which patterns have no text for Rust, and why. The causes are this project's own. They are parts that the syntax of the crate `regex`
+-- lacks (its documentation, section "Syntax"), or has in another form that is not written here, as names past ASCII.
 use Rattle.std.specs.Prelude.{ℕ, ◌+◌, Bool, true, false, not, ◌&&◌, ◌||◌, ◌==◌, nat_le, nat_lt, if◌then◌else◌, List, [], ◌∷◌, drop, Option, Some, None}
 use Rattle.std.specs.List.{list_all}
 use Rattle.std.specs.Str.{bytes_eq}

@@ -1,4 +1,4 @@
--- A text that a tree matches, of at most 256 bytes of UTF-8 (RFC 3629). Which text is this project's own.
+-- A text that a tree matches with `^`, `$`, `\b` and `\B` read as empty, of at most 256 bytes of UTF-8 (RFC 3629). Which text is this project's own.
 use Rattle.std.specs.Prelude.{ℕ, zero, suc, ◌+◌, Bool, ◌&&◌, ◌==◌, nat_le, if◌then◌else◌, [], ◌∷◌, ◌++◌, length, Option, Some, None, option_and_then, option_map}
 use Rattle.std.specs.List.{list_all}
 use Rattle.std.specs.Option.{option_or}

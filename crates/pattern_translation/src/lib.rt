@@ -1,6 +1,7 @@
 //! Patterns of ECMA-262 for other readers.
 //!
-//! [`to_rust_regex`] gives a pattern in the syntax of the crate `regex`, or says why it has no text there:
+//! [`to_rust_regex`] writes a pattern for the crate `regex`, or says why it has no text. That the crate reads the text is not
+//! proved.
 //!
 //! | pattern | text for Rust |
 //! |---|---|
@@ -13,7 +14,7 @@
 //! `specs/Written.antt` has what is written for an escape, a code point and an atom of a class, row by row, and
 //! `specs/Translation.antt` how these texts make that of a whole pattern.
 //!
-//! [`pattern_witness`] gives a text that a pattern matches, or None:
+//! [`pattern_witness`] gives a text that a pattern matches where `^`, `$`, `\b` and `\B` are read as empty, or None:
 //!
 //! | pattern | witness |
 //! |---|---|
@@ -22,15 +23,15 @@
 //! | `a.b` | `aab` |
 //! | `(?=a)b`, `(a)\1`, `a{100}`, `[^\s\S]` | none |
 //!
-//! Patterns are read by the widened grammar of `pattern_model`: that of ECMA-262 with the Unicode flag, but `]` and `}` may stand
-//! for themselves outside of classes, and in a class `\d--`, and so with each class escape, is three items. The witness is that of
-//! the tree, as `specs/Witness.antt` has it. There is none where the pattern has no translation to the pattern syntax of Rust, for
-//! one of the causes in `specs/Refusals.antt`: look-around, back-references, and parts that are not supported there, as an empty
-//! class, `\b` in a class, or a count of 2^32 or more. Nor is there one where the pattern has a property escape or a group with
+//! Patterns are read by the widened grammar of `pattern_model`: its grammar of ECMA-262, but `]` and `}` may stand for themselves
+//! outside of classes, and in a class `\d--`, and so with each class escape, is three items. The witness is that of
+//! the tree, as `specs/Witness.antt` has it. There is none where the pattern has no text for Rust, for one of the causes in
+//! `specs/Refusals.antt`: look-around, back-references, and parts that are not translated, as an empty class, `\b` in a class, or a
+//! count of 2^32 or more. Nor is there one where the pattern has a property escape or a group with
 //! modifiers, since what these match is not told here.
 //!
-//! [`laws`] says that a pattern has at most one text for Rust, and that a tree with a witness matches it from end to end, where `^`,
-//! `$`, `\b` and `\B` are read as empty.
+//! [`laws`] says that a pattern has at most one text for Rust. A tree without look-around, back-references, property escapes and
+//! modifiers matches its witness, if it has one, from end to end, where `^`, `$`, `\b` and `\B` are read as empty.
 #![tactic(auto)]
 
 mod class;

@@ -16,14 +16,14 @@ use pattern_tree::read_widened;
 use std::alloc::Global;
 use std::borrow::CowStr;
 
-/// The pattern in the syntax of the crate `regex`: `^[\d--a]\cA$` is written as `^[[0-9]\-\-a]`, the character U+0001 and `$`. The
-/// pattern has fewer than 2^30 bytes, and is borrowed where its text is the same.
+/// The pattern, written for the crate `regex`: `^[\d--a]\cA$` is written as `^[[0-9]\-\-a]`, the character U+0001 and `$`. The
+/// pattern has fewer than 2^30 bytes. By review, it is borrowed where its text is the same.
 ///
 /// The pattern is read by the widened grammar. Changed are class escapes, `\c` and a letter, `\0`, `\<`, `\>`, the escapes in the
-/// names of groups, and in a class `[`, doubled `&` and `~`, and hyphens beside hyphens; all else is copied. What `.`, `\b`, `\B`,
-/// modifiers and property escapes then mean is not told here.
+/// names of groups, and in a class `[`, doubled `&` and `~`, and hyphens beside hyphens, but for a range's own. All else is copied.
+/// What `.`, `\b`, `\B`, modifiers and property escapes then mean is not told here.
 ///
-/// It takes memory for the tree and for the text.
+/// It takes memory for the tree, for what is asked of it, and for the text.
 pub fn to_rust_regex<'a>(alloc: Global, pattern: &'a str) -> Result<CowStr<'a>, TranslateError>
     requires { length pattern.now < 2 ^ 30 }
     ensures translated { IfOk result (λ s. (w : Text) × Translates (chars pattern.now) w

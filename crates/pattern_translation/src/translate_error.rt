@@ -16,7 +16,7 @@ pub enum TranslateError {
     /// It has a back-reference, as `(a)\1`.
     #[error("BackReference")]
     BackReference,
-    /// It has a part that the pattern syntax of Rust lacks: an empty class, as `[]`; `\b` in a class; `\u` with a surrogate; a
+    /// It has a part that is not translated: an empty class, as `[]`; `\b` in a class; `\u` with a surrogate; a
     /// backslash before a character past ASCII; two groups of one name; a name that is not an ASCII letter or `_` and then ASCII
     /// letters, digits and `_`; a count of 2^32 or more; more than 250 groups open at one place.
     #[error("Unsupported")]

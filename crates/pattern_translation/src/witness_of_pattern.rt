@@ -13,16 +13,16 @@ use crate::witness::tree_witness;
 use pattern_tree::{OutOfMemory, read_widened};
 use std::alloc::Global;
 
-/// A text that the pattern matches, of at most 256 bytes: for `^[a-z]+-[0-9]+$` it is `a-0`. The pattern has fewer than 2^30
-/// bytes.
+/// A text that the pattern matches where `^`, `$`, `\b` and `\B` are read as empty, of at most 256 bytes: for `^[a-z]+-[0-9]+$` it is
+/// `a-0`. The pattern has fewer than 2^30 bytes.
 ///
 /// A character stands for itself, and `.` for `a`. Of a class or class escape it is `a`, or else the least character that is a
-/// member. A part with a quantifier stands as often as it has to, up to 64 times; of alternatives it is the first that has a
+/// member. A part with a quantifier stands as often as it has to, and gives none where that is more than 64 times; of alternatives it is the first that has a
 /// text; and `^`, `$`, `\b` and `\B` are read as empty. There is none where that gives none; where the text is outside the
-/// widened grammar; where there is look-around, a back-reference, a property escape or a group with modifiers; and where the
-/// pattern syntax of Rust lacks a part of the pattern.
+/// widened grammar; where there is look-around, a back-reference, a property escape or a group with modifiers; and where a
+/// part of the pattern is not translated to Rust's syntax.
 ///
-/// It takes memory for the tree and for a text at each node.
+/// It takes memory for the tree, for what is asked of it, and for a text at each node.
 pub fn pattern_witness(alloc: Global, pattern: &str) -> Result<Option<String>, OutOfMemory>
     requires { length pattern.now < 2 ^ 30 }
     ensures some { IfOk result (λ o. IfSome o (λ w. (t : Tree) × Grammar true (chars pattern.now) t

@@ -20,6 +20,7 @@ mod nodes;
 mod numbers;
 mod patterns;
 mod runs;
+mod rust_patterns;
 mod slow;
 mod texts;
 mod types;
@@ -56,6 +57,7 @@ fn answer(alloc: Global, line: &str) -> Option<String> {
         "run" => runs::run_row(alloc, rest),
         "types" => types::types(alloc, rest),
         "pattern" => patterns::pattern(alloc, rest),
+        "rust" => rust_patterns::rust(alloc, rest),
         "errors" => names::errors(alloc),
         _ => None,
     }

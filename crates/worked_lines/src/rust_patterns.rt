@@ -1,0 +1,31 @@
+//! Patterns for Rust, and their witnesses.
+
+use crate::texts::expand;
+use jsonschema_regex::{pattern_witness, to_rust_regex};
+use std::alloc::Global;
+use std::borrow::CowStr;
+
+// A text, or its length where it is long.
+fn short(alloc: Global, text: &str) -> Option<String> {
+    if text.len() > 1000 {
+        return format!(in alloc; "{} bytes", text.len()).ok();
+    }
+    String::from_str(alloc, text).ok()
+}
+
+/// `TEXT`: the text for Rust of a pattern, which is of parts between commas, and whether it is borrowed, or why there is none; and the
+/// witness of the pattern.
+pub(crate) fn rust(alloc: Global, rest: &str) -> Option<String> {
+    let pattern = expand(alloc, rest)?;
+    if pattern.len() >= 1 << 30 {
+        return None;
+    }
+    let mut all = match to_rust_regex(alloc, &pattern) {
+        Ok(CowStr::Borrowed(text)) => format!(in alloc; "{} borrowed", short(alloc, text)?).ok()?,
+        Ok(CowStr::Owned(text)) => short(alloc, &text)?,
+        Err(error) => format!(in alloc; "{error} {error:?}").ok()?,
+    };
+    let witness = pattern_witness(alloc, &pattern).ok()?;
+    write!(all, " {witness:?}").ok()?;
+    Some(all)
+}

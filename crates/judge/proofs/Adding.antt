@@ -17,7 +17,7 @@ use Rattle.judge.specs.Verdict.{Holds, IsUpTo, Reaches, count_of}
 use Rattle.judge.specs.declared.bounds.Bounds.{Bounds}
 use Rattle.judge.specs.declared.checks.Checks.{Checks}
 use Rattle.judge.specs.declared.keyword.Keyword.{Keyword}
-use Rattle.judge.specs.declared.keyword.Keyword.TheVariants.{«Type», Enum, Const, Bound, Least, Greatest, UniqueItems, Pattern, Required, Silent}
+use Rattle.judge.specs.declared.keyword.Keyword.TheVariants.{«Type», Enum, Const, Bound, Least, Greatest, UniqueItems, Pattern, Required, Silent, WrittenType}
 use Rattle.judge.specs.declared.keyword.Measure.{Measure}
 use Rattle.judge.specs.declared.keyword.Measure.TheVariants.{CodePoints, Elements, Members}
 use Rattle.judge.specs.declared.limits.Limit.{Limit}
@@ -50,6 +50,7 @@ module _ (old : Checks) (v : Tree) where
       λ h. (let k = split d h.bounds in (
         record {
           types = h.types;
+          written_types = h.written_types;
           listed = h.listed;
           constant = h.constant;
           bounds = k.0;
@@ -64,6 +65,7 @@ module _ (old : Checks) (v : Tree) where
       )),
       λ h. record {
         types = h.0.types;
+        written_types = h.0.written_types;
         listed = h.0.listed;
         constant = h.0.constant;
         bounds = both d (h.0.bounds, (holds d).1 h.1);
@@ -121,6 +123,7 @@ module _ (old : Checks) (v : Tree) where
       others Pattern other h = h
       others Required other h = h
       others (Silent form) other h = h
+      others WrittenType other h = h
 
   -- a list of values that was kept
   pub adds_listed : (values : Vec Value Global) → IsFree Enum old → Suits Enum v → AreListed v values.items
@@ -131,6 +134,7 @@ module _ (old : Checks) (v : Tree) where
       λ h. (
         record {
           types = h.types;
+          written_types = h.written_types;
           listed = rw free tt;
           constant = h.constant;
           bounds = h.bounds;
@@ -145,6 +149,7 @@ module _ (old : Checks) (v : Tree) where
       ),
       λ h. record {
         types = h.0.types;
+        written_types = h.0.written_types;
         listed = (is d).1 h.1;
         constant = h.0.constant;
         bounds = h.0.bounds;
@@ -176,6 +181,7 @@ module _ (old : Checks) (v : Tree) where
       others Pattern other h = h
       others Required other h = h
       others (Silent form) other h = h
+      others WrittenType other h = h
 
   -- a pattern that was kept
   pub adds_pattern : (a : LiteralPattern) → IsFree Pattern old → Suits Pattern v → IsPatternOf v a
@@ -186,6 +192,7 @@ module _ (old : Checks) (v : Tree) where
       λ h. (
         record {
           types = h.types;
+          written_types = h.written_types;
           listed = h.listed;
           constant = h.constant;
           bounds = h.bounds;
@@ -200,6 +207,7 @@ module _ (old : Checks) (v : Tree) where
       ),
       λ h. record {
         types = h.0.types;
+        written_types = h.0.written_types;
         listed = h.0.listed;
         constant = h.0.constant;
         bounds = h.0.bounds;
@@ -231,6 +239,7 @@ module _ (old : Checks) (v : Tree) where
       others Pattern other h = absurd (other refl)
       others Required other h = h
       others (Silent form) other h = h
+      others WrittenType other h = h
 
   -- a truth value that was set for `uniqueItems`
   pub adds_unique : (b : Bool) → IsFree UniqueItems old → as_boolean v ≡ Some b → Adds old UniqueItems v (record old { unique = b })
@@ -240,6 +249,7 @@ module _ (old : Checks) (v : Tree) where
       λ h. (
         record {
           types = h.types;
+          written_types = h.written_types;
           listed = h.listed;
           constant = h.constant;
           bounds = h.bounds;
@@ -254,6 +264,7 @@ module _ (old : Checks) (v : Tree) where
       ),
       λ h. record {
         types = h.0.types;
+        written_types = h.0.written_types;
         listed = h.0.listed;
         constant = h.0.constant;
         bounds = h.0.bounds;
@@ -292,6 +303,7 @@ module _ (old : Checks) (v : Tree) where
       others Pattern other h = h
       others Required other h = h
       others (Silent form) other h = h
+      others WrittenType other h = h
 
   module _ (measure : Measure) (limit : Limit) (new : Checks) (is : IsSomeAnd (as_number v) (λ m. IsCount m × IsLimitOf limit m)) where
     form : IsSomeAnd (as_number v) IsCount

@@ -1,9 +1,10 @@
 -- Each input has one text of answers, and what a run wrote begins it.
 use Rattle.std.proofs.Common.{◌≡◌, inl, inr, ℕ, List, [], ◌∷◌, ◌++◌, refl, sym, ap, ◌∙◌, subst, append_assoc, append-nil}
-use Rattle.judge.specs.Answers.{Answers, LineAnswer}
+use Rattle.judge.specs.Answers.{Answers, LineAnswerBy}
 use Rattle.judge.specs.Codes.{CodeAnswer}
 use Rattle.judge.specs.Lines.{lines_of}
 use Rattle.judge.specs.Ran.{Agrees, AnswersBefore, AnswersEnded, IsCutOff, StopsAt}
+use Rattle.judge.specs.declared.draft.Draft.{Draft}
 use Rattle.judge.specs.declared.status.Status.{Status}
 use Rattle.judge.specs.declared.status.Status.TheVariants.{Done, BadWords, ReadFault, WriteFault, LineTooLong, InputTooLong, OutOfMemory}
 use Rattle.judge.proofs.CodeAnswers.{one_code, some_code}
@@ -100,17 +101,18 @@ module _ (A : List ℕ → List ℕ → Type 0) where
     agrees_begins LineTooLong taken text whole h g = before_begins LineTooLong taken text whole h g
     agrees_begins OutOfMemory taken text whole h g = before_begins OutOfMemory taken text whole h g
 
--- ---- the answers of the two commands
+-- ---- the answers of the commands
 
-pub some_answers : (input : List ℕ) → (text : List ℕ) × Answers LineAnswer (lines_of input) text
-some_answers input = some_text LineAnswer some_line_answer (lines_of input)
+pub some_answers : (draft : Draft) (input : List ℕ) → (text : List ℕ) × Answers (LineAnswerBy draft) (lines_of input) text
+some_answers draft input = some_text (LineAnswerBy draft) (some_line_answer draft) (lines_of input)
 
-pub one_answers : (input s t : List ℕ) → Answers LineAnswer (lines_of input) s → Answers LineAnswer (lines_of input) t → s ≡ t
-one_answers input = one_text LineAnswer one_line_answer (lines_of input)
+pub one_answers : (draft : Draft) (input s t : List ℕ) → Answers (LineAnswerBy draft) (lines_of input) s
+    → Answers (LineAnswerBy draft) (lines_of input) t → s ≡ t
+one_answers draft input = one_text (LineAnswerBy draft) (one_line_answer draft) (lines_of input)
 
-pub written_begins : (status : Status) (taken text whole : List ℕ) → Agrees LineAnswer status taken text
-    → Answers LineAnswer (lines_of taken) whole → (rest : List ℕ) × (whole ≡ text ++ rest)
-written_begins = agrees_begins LineAnswer one_line_answer
+pub written_begins : (draft : Draft) (status : Status) (taken text whole : List ℕ) → Agrees (LineAnswerBy draft) status taken text
+    → Answers (LineAnswerBy draft) (lines_of taken) whole → (rest : List ℕ) × (whole ≡ text ++ rest)
+written_begins draft = agrees_begins (LineAnswerBy draft) (one_line_answer draft)
 
 pub some_codes : (input : List ℕ) → (text : List ℕ) × Answers CodeAnswer (lines_of input) text
 some_codes input = some_text CodeAnswer some_code (lines_of input)

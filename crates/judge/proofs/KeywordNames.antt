@@ -1,14 +1,19 @@
 -- Each keyword has one name.
-use Rattle.std.proofs.Common.{rules, ◌≡◌, ℕ, ◌+◌, List, [], ◌∷◌, Bool, true, false, not, ◌&&◌, ◌||◌, nat_eq, Some, refl, sym, ap, subst, ◌∙◌}
-use Rattle.std.specs.Prelude.{bytes_eq, if◌then◌else◌}
+use Rattle.std.proofs.Common.{rules, ◌≡◌, ℕ, ◌+◌, List, [], ◌∷◌, ◌++◌, Bool, true, false, not, ◌&&◌, ◌||◌, nat_eq, Some, refl, sym, ap, subst, ◌∙◌}
+use Rattle.std.specs.Prelude.{bytes_eq, codes, if◌then◌else◌}
+use Rattle.std.specs.List.{AllByRecursion}
 use Rattle.std.proofs.lemmas.Slice.Eq.{bytes_eq-Decides}
 use Rattle.json_model.specs.Parts.{lookup}
 use Rattle.json_semantics.specs.BoundCodes.{code_of}
-use Rattle.judge.specs.Names.{keyword_of, keywords}
+use Rattle.judge.specs.Draft4.{draft4_names}
+use Rattle.judge.specs.Names.{keyword_by, keyword_of, names_2020, names_by, shared_names}
+use Rattle.judge.specs.declared.draft.Partners.{Partners}
+use Rattle.judge.specs.declared.draft.Reading.{Reading}
+use Rattle.judge.specs.declared.draft.Reading.TheVariants as reading
 use Rattle.judge.specs.declared.keyword.Measure.{Measure}
 use Rattle.judge.specs.declared.keyword.Measure.TheVariants.{CodePoints, Elements, Members}
 use Rattle.judge.specs.declared.keyword.Keyword.{Keyword}
-use Rattle.judge.specs.declared.keyword.Keyword.TheVariants.{«Type», Enum, Const, Bound, Least, Greatest, Pattern, Required, UniqueItems, Silent}
+use Rattle.judge.specs.declared.keyword.Keyword.TheVariants.{«Type», Enum, Const, Bound, Least, Greatest, Pattern, Required, UniqueItems, Silent, WrittenType}
 
 abbrev measure_number : Measure → ℕ
 measure_number CodePoints = 0
@@ -27,6 +32,7 @@ number_of (Bound op) = 10 + code_of op
 number_of (Least measure) = 20 + measure_number measure
 number_of (Greatest measure) = 30 + measure_number measure
 number_of (Silent form) = 40
+number_of WrittenType = 6
 
 -- nothing is kept of the keyword
 abbrev pub is_silent : Keyword → Bool
@@ -94,6 +100,43 @@ one_name_in k l (p ∷ ps) w kept d e f =
     go free false true x y e f more = let s : p.1 ≡ w = cc in absurd (never k p.1 w ps (free (is_kept s)) s e)
     go free false false x y e f more = more e f
 
+-- ---- the names of both drafts, and others
+
+-- what is under none of the first names is looked for among the others
+past : {A : Type 0} (k : List ℕ) (ps qs : List (List ℕ × A)) → AllByRecursion (λ p. k ≡ p.0 → ⊥) ps → lookup k (ps ++ qs) ≡ lookup k qs
+past k [] qs h = refl
+past k (p ∷ ps) qs h = go (bytes_eq k p.0) refl (past k ps qs h.1)
+  where
+    go : (b : Bool) → bytes_eq k p.0 ≡ b → lookup k (ps ++ qs) ≡ lookup k qs → (if b then Some p.1 else lookup k (ps ++ qs)) ≡ lookup k qs
+    go true e more = absurd (h.0 ((bytes_eq-Decides k p.0).0 e))
+    go false e more = more
+
+-- so is a name that both drafts do not share
+pub past_shared : (k : List ℕ) (others : List (List ℕ × Keyword))
+    → (k ≡ codes "enum" → ⊥) → (k ≡ codes "minLength" → ⊥) → (k ≡ codes "maxLength" → ⊥) → (k ≡ codes "minItems" → ⊥) → (k ≡ codes "maxItems" → ⊥)
+    → (k ≡ codes "uniqueItems" → ⊥) → (k ≡ codes "minProperties" → ⊥) → (k ≡ codes "maxProperties" → ⊥) → (k ≡ codes "pattern" → ⊥)
+    → (k ≡ codes "required" → ⊥) → (k ≡ codes "title" → ⊥) → (k ≡ codes "description" → ⊥) → (k ≡ codes "default" → ⊥)
+    → lookup k (shared_names ++ others) ≡ lookup k others
+past_shared k others a b c d e f g h i j l m n = past k shared_names others (a, (b, (c, (d, (e, (f, (g, (h, (i, (j, (l, (m, (n, tt)))))))))))))
+
+-- the names of each draft have their own keywords
+distinct_by : (r : Reading) → are_distinct (names_by r) ≡ true
+distinct_by reading.Draft2020 = refl
+distinct_by (reading.Draft4 p) = go p.above_minimum p.below_maximum
+  where
+    with_bounds : Bool → Bool → Partners
+    with_bounds above below = record p { above_minimum = above; below_maximum = below }
+
+    go : (above below : Bool) → are_distinct (shared_names ++ draft4_names (with_bounds above below)) ≡ true
+    go true true = refl
+    go true false = refl
+    go false true = refl
+    go false false = refl
+
 -- two names of one keyword of which something is kept are one name
-pub one_name : (k l : List ℕ) (w : Keyword) → is_silent w ≡ false → keyword_of k ≡ Some w → keyword_of l ≡ Some w → k ≡ l
-one_name k l w kept e f = one_name_in k l keywords w kept refl e f
+pub one_name : (r : Reading) (k l : List ℕ) (w : Keyword) → is_silent w ≡ false → keyword_by r k ≡ Some w → keyword_by r l ≡ Some w → k ≡ l
+one_name r k l w kept e f = one_name_in k l (names_by r) w kept (distinct_by r) e f
+
+-- no name of 2020-12 has the keyword that is draft 4's `type`
+pub never_written : (k : List ℕ) → keyword_of k ≡ Some WrittenType → ⊥
+never_written k e = let z : false ≡ true = stands k (shared_names ++ names_2020) WrittenType e in absurd cc

@@ -30,3 +30,4 @@ pub mod Summaries
 pub mod TypeLists
 pub mod RequiredKeys
 pub mod UniqueLaws
+pub mod WrittenTypes

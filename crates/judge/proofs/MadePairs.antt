@@ -12,8 +12,9 @@ use Rattle.jsonb.specs.declared.error.JsonbError.{JsonbError}
 use Rattle.jsonb_layout.proofs.Containers.{one_tree}
 use Rattle.jsonb_layout.specs.Stands.{Stands}
 use Rattle.serde_json.specs.Data as serde
-use Rattle.judge.specs.Right.{Answer, Right, RightFrom, RightOf, RightWith, document_error, keyword_error, keywords_error}
+use Rattle.judge.specs.Right.{Answer, Right, RightBy, RightFrom, RightOf, RightWith, document_error, keyword_error, keywords_error}
 use Rattle.judge.specs.Verdict.{Verdict}
+use Rattle.judge.specs.declared.draft.Draft.TheVariants as drafts
 use Rattle.judge.specs.declared.errors.JudgeError.{JudgeError}
 use Rattle.judge.specs.declared.errors.JudgeError.TheVariants.{OutOfMemory}
 use Rattle.judge.specs.declared.errors.KeywordError.{KeywordError}
@@ -46,26 +47,27 @@ no_truth a e h = absurd cc
 -- where the bytes of two trees get a verdict, it is that of the trees
 module _ (keywords_bytes document_bytes : List ℕ) (k d : Tree) (stands : Stands keywords_bytes k) (stands_too : Stands document_bytes d)
     (valid : Bool) where
-  by_document : (s : Result Tree JsonbError) → IsRead document_bytes s → RightOf k s (Ok valid) → IsTrue valid ↔ Verdict k d
+  by_document : (s : Result Tree JsonbError) → IsRead document_bytes s → RightOf drafts.Draft2020 k s (Ok valid) → IsTrue valid ↔ Verdict k d
   by_document (Err e) reads right = absurd (no_truth valid (document_error e) right)
   by_document (Ok u) reads right =
       let same : u ≡ d = one_tree document_bytes u d reads.0 stands_too in
       let truth : valid ≡ right.0 = one_truth valid right.0 right.1 in
       subst (λ (b : Bool). IsTrue b ↔ Verdict k d) (sym truth) (subst (λ (t : Tree). IsTrue right.0 ↔ Verdict k t) same right.2)
 
-  by_fault : (fault : Option KeywordError) → RightWith k fault document_bytes (Ok valid) → IsTrue valid ↔ Verdict k d
+  by_fault : (fault : Option KeywordError) → RightWith drafts.Draft2020 k fault document_bytes (Ok valid) → IsTrue valid ↔ Verdict k d
   by_fault (Some e) right = absurd (no_truth valid (keyword_error e) right)
   by_fault None right = by_document right.0 right.1 right.2
 
-  by_keywords : (s : Result Tree JsonbError) → IsRead keywords_bytes s → RightFrom s document_bytes (Ok valid) → IsTrue valid ↔ Verdict k d
+  by_keywords : (s : Result Tree JsonbError) → IsRead keywords_bytes s → RightFrom drafts.Draft2020 s document_bytes (Ok valid)
+      → IsTrue valid ↔ Verdict k d
   by_keywords (Err e) reads right = absurd (no_truth valid (keywords_error e) right)
   by_keywords (Ok t) reads right =
       let same : t ≡ k = one_tree keywords_bytes t k reads.0 stands in
-      by_fault right.0 (subst (λ (u : Tree). RightWith u right.0 document_bytes (Ok valid)) same right.2)
+      by_fault right.0 (subst (λ (u : Tree). RightWith drafts.Draft2020 u right.0 document_bytes (Ok valid)) same right.2)
 
   -- what `judge` says of them
   pub judged : (r : Answer) → r ≡ Ok valid → (r ≡ Err OutOfMemory) ⊎ Right keywords_bytes document_bytes r → IsTrue valid ↔ Verdict k d
-  unfolding Right
+  unfolding RightBy
   judged r is (inl memory) = absurd (no_truth valid OutOfMemory (sym is ∙ memory))
   judged r is (inr right) =
       let here = subst (λ (a : Answer). Right keywords_bytes document_bytes a) is right in

@@ -4,12 +4,13 @@ use Rattle.std.specs.Prelude.{IfOk, IsNone, IsSomeAnd, MatchOption}
 use Rattle.std.specs.Result.{result_ok}
 use Rattle.jsonb.specs.HexText.{IsHexText}
 use Rattle.jsonb.proofs.HexTexts.{pair_no_space}
+use Rattle.judge.specs.declared.draft.Draft.{Draft}
 use Rattle.judge.specs.declared.errors.JudgeError.{JudgeError}
 use Rattle.judge.specs.declared.errors.JudgeError.TheVariants.{OutOfMemory}
-use Rattle.judge.specs.Answers.{IsJudged, IsPair, LineAnswer, name_of}
+use Rattle.judge.specs.Answers.{IsJudged, IsPair, LineAnswerBy, name_of}
 use Rattle.judge.specs.inner.Feeding.{AnswersOne}
 use Rattle.judge.specs.Lines.{Lacks}
-use Rattle.judge.specs.Right.{Right}
+use Rattle.judge.specs.Right.{RightBy}
 use Rattle.judge.proofs.Texts.{Lacks-cut, cut_once}
 
 -- a hex text has no space
@@ -38,36 +39,37 @@ no_parts line k d lacks pair = Lacks-cut 32 pair.first pair.second (subst (λ t.
 no_name : (verdict : Result Bool JudgeError) (name : List ℕ) → verdict ≡ Err OutOfMemory → name_of verdict ≡ Some name → ⊥
 no_name verdict name memory named = let none : name_of verdict ≡ None = ap name_of memory in cc
 
-named_answer : (line k d : List ℕ) (verdict : Result Bool JudgeError) (name text : List ℕ) → IsPair line k d
-    → (verdict ≡ Err OutOfMemory) ⊎ Right k d verdict → name_of verdict ≡ Some name → text ≡ name ++ 10 ∷ []
-    → AnswersOne LineAnswer line text
-named_answer line k d verdict name text pair (inl memory) named is = absurd (no_name verdict name memory named)
-named_answer line k d verdict name text pair (inr right) named is =
-    let judged : IsJudged line name =
-    record { keywords = k; document = d; verdict = verdict; pair = pair; right = right; named = named } in
-    record { answer = name; right = inl judged; is = is }
+module _ (draft : Draft) where
+  named_answer : (line k d : List ℕ) (verdict : Result Bool JudgeError) (name text : List ℕ) → IsPair line k d
+      → (verdict ≡ Err OutOfMemory) ⊎ RightBy draft k d verdict → name_of verdict ≡ Some name → text ≡ name ++ 10 ∷ []
+      → AnswersOne (LineAnswerBy draft) line text
+  named_answer line k d verdict name text pair (inl memory) named is = absurd (no_name verdict name memory named)
+  named_answer line k d verdict name text pair (inr right) named is =
+      let judged : IsJudged draft line name =
+      record { keywords = k; document = d; verdict = verdict; pair = pair; right = right; named = named } in
+      record { answer = name; right = inl judged; is = is }
 
-printed_name : (line k d : List ℕ) (verdict : Result Bool JudgeError) (name : Option (List ℕ)) (text : Bor (List ℕ)) → IsPair line k d
-    → (verdict ≡ Err OutOfMemory) ⊎ Right k d verdict → name_of verdict ≡ name
-    → MatchOption name (IsNone (Some text)) (λ n. IsSomeAnd (Some text) (λ t. t.now ≡ n ++ 10 ∷ []))
-    → AnswersOne LineAnswer line text.now
-printed_name line k d verdict None text pair right named h = cc
-printed_name line k d verdict (Some name) text pair right named h = named_answer line k d verdict name text.now pair right named h
+  printed_name : (line k d : List ℕ) (verdict : Result Bool JudgeError) (name : Option (List ℕ)) (text : Bor (List ℕ)) → IsPair line k d
+      → (verdict ≡ Err OutOfMemory) ⊎ RightBy draft k d verdict → name_of verdict ≡ name
+      → MatchOption name (IsNone (Some text)) (λ n. IsSomeAnd (Some text) (λ t. t.now ≡ n ++ 10 ∷ []))
+      → AnswersOne (LineAnswerBy draft) line text.now
+  printed_name line k d verdict None text pair right named h = cc
+  printed_name line k d verdict (Some name) text pair right named h = named_answer line k d verdict name text.now pair right named h
 
--- what `printed` gives of a verdict: its name and the end of a line, or nothing where it has no name
-abbrev Printed : Result Bool JudgeError → Option (Bor (List ℕ)) → Type 0
-Printed verdict o = MatchOption (name_of verdict) (IsNone o) (λ n. IsSomeAnd o (λ t. t.now ≡ n ++ 10 ∷ []))
+  -- what `printed` gives of a verdict: its name and the end of a line, or nothing where it has no name
+  abbrev Printed : Result Bool JudgeError → Option (Bor (List ℕ)) → Type 0
+  Printed verdict o = MatchOption (name_of verdict) (IsNone o) (λ n. IsSomeAnd o (λ t. t.now ≡ n ++ 10 ∷ []))
 
--- what is printed of the right answer to a pair answers the line
-printed_answer : (line k d : List ℕ) (verdict : Result Bool JudgeError) (o : Option (Bor (List ℕ))) (text : Bor (List ℕ))
-    → IsPair line k d → (verdict ≡ Err OutOfMemory) ⊎ Right k d verdict → Printed verdict o → o ≡ Some text
-    → AnswersOne LineAnswer line text.now
-printed_answer line k d verdict o text pair right printed e =
-    printed_name line k d verdict (name_of verdict) text pair right refl (subst (λ p. Printed verdict p) e printed)
+  -- what is printed of the right answer to a pair answers the line
+  printed_answer : (line k d : List ℕ) (verdict : Result Bool JudgeError) (o : Option (Bor (List ℕ))) (text : Bor (List ℕ))
+      → IsPair line k d → (verdict ≡ Err OutOfMemory) ⊎ RightBy draft k d verdict → Printed verdict o → o ≡ Some text
+      → AnswersOne (LineAnswerBy draft) line text.now
+  printed_answer line k d verdict o text pair right printed e =
+      printed_name line k d verdict (name_of verdict) text pair right refl (subst (λ p. Printed verdict p) e printed)
 
--- the same of the result that the command gives
-pub printed_answers : {E : Type 0} (line k d : List ℕ) (verdict : Result Bool JudgeError) (o : Option (Bor (List ℕ)))
-    (result : Result (Bor (List ℕ)) E) → IsPair line k d → (verdict ≡ Err OutOfMemory) ⊎ Right k d verdict → Printed verdict o
-    → o ≡ result_ok result → IfOk result (λ text. AnswersOne LineAnswer line text.now)
-printed_answers line k d verdict o (Ok text) pair right printed e = printed_answer line k d verdict o text pair right printed e
-printed_answers line k d verdict o (Err error) pair right printed e = tt
+  -- the same of the result that the command gives
+  pub printed_answers : {E : Type 0} (line k d : List ℕ) (verdict : Result Bool JudgeError) (o : Option (Bor (List ℕ)))
+      (result : Result (Bor (List ℕ)) E) → IsPair line k d → (verdict ≡ Err OutOfMemory) ⊎ RightBy draft k d verdict → Printed verdict o
+      → o ≡ result_ok result → IfOk result (λ text. AnswersOne (LineAnswerBy draft) line text.now)
+  printed_answers line k d verdict o (Ok text) pair right printed e = printed_answer line k d verdict o text pair right printed e
+  printed_answers line k d verdict o (Err error) pair right printed e = tt

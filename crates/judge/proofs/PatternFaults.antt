@@ -5,7 +5,9 @@ use Rattle.json_model.specs.Parts.{as_string, points}
 use Rattle.json_model.specs.Tree.{Tree}
 use Rattle.jsonschema_regex.proofs.DecidedPatterns.{decided_analysis, decided_grammar, Decided}
 use Rattle.judge.specs.Patterns.{IsLiteral, IsPattern}
-use Rattle.judge.specs.Validity.{HasForm, IsNoPattern, KeepsDeep, NeedsEngine}
+use Rattle.judge.specs.Validity.{HasFormBy, IsNarrowBy, IsNoPattern, KeepsDeep, NeedsEngine}
+use Rattle.judge.specs.declared.draft.Reading.{Reading}
+use Rattle.judge.specs.declared.draft.Reading.TheVariants as reading
 use Rattle.judge.specs.declared.keyword.Keyword.{Keyword}
 use Rattle.judge.specs.declared.keyword.Keyword.TheVariants.{Pattern}
 use Rattle.judge.proofs.Decided.{decided_and, decided_both, decided_not}
@@ -14,13 +16,18 @@ text_there : {A : Type 0} (o : Option A) (P : A → Type 0) → IsSomeAnd o P �
 text_there None P h = absurd h
 text_there (Some a) P h = refl
 
-pub no_pattern_form : (w : Keyword) (v : Tree) → IsNoPattern w v → HasForm w v
-no_pattern_form Pattern v h = text_there (as_string v) (λ s. IsPattern s → ⊥) h
-no_pattern_form _ v h = absurd h
+-- draft 4 asks nothing of a pattern besides
+besides : (r : Reading) (v : Tree) → IsNarrowBy r Pattern v
+besides reading.Draft2020 v = tt
+besides (reading.Draft4 partners) v = tt
 
-pub needs_engine_form : (w : Keyword) (v : Tree) → NeedsEngine w v → HasForm w v
-needs_engine_form Pattern v h = text_there (as_string v) (λ s. IsPattern s × (IsLiteral s → ⊥)) h
-needs_engine_form _ v h = absurd h
+pub no_pattern_form : (r : Reading) (w : Keyword) (v : Tree) → IsNoPattern w v → HasFormBy r w v
+no_pattern_form r Pattern v h = (text_there (as_string v) (λ s. IsPattern s → ⊥) h, besides r v)
+no_pattern_form r _ v h = absurd h
+
+pub needs_engine_form : (r : Reading) (w : Keyword) (v : Tree) → NeedsEngine w v → HasFormBy r w v
+needs_engine_form r Pattern v h = (text_there (as_string v) (λ s. IsPattern s × (IsLiteral s → ⊥)) h, besides r v)
+needs_engine_form r _ v h = absurd h
 
 -- a string is a pattern, or it is none
 pub one_of_both : (w : Keyword) (v : Tree) → NeedsEngine w v → IsNoPattern w v → ⊥

@@ -17,12 +17,13 @@ use Rattle.json_semantics.proofs.EquivalenceLaws.{same_chain, same_turned, same_
 use Rattle.json_traits.specs.Allowed.{IsInteger, IsOfType}
 use Rattle.json_traits.specs.Kinds.{type_of}
 use Rattle.json_traits.specs.declared.types.json_type.JsonType.{JsonType}
+use Rattle.judge.proofs.KeywordNames.{never_written}
 use Rattle.judge.proofs.UniqueLaws.{unique_on}
 use Rattle.judge.specs.Names.{keyword_of}
 use Rattle.judge.specs.Patterns.{Finds}
 use Rattle.judge.specs.Verdict.{Holds, HoldsAt, IsKeyOf, IsOneOf, IsUpTo, Reaches, Verdict, count_of}
 use Rattle.judge.specs.declared.keyword.Keyword.{Keyword}
-use Rattle.judge.specs.declared.keyword.Keyword.TheVariants.{«Type», Enum, Const, Bound, Least, Greatest, Pattern, Required, UniqueItems, Silent}
+use Rattle.judge.specs.declared.keyword.Keyword.TheVariants.{«Type», Enum, Const, Bound, Least, Greatest, Pattern, Required, UniqueItems, Silent, WrittenType}
 use Rattle.judge.specs.declared.keyword.Measure.{Measure}
 use Rattle.judge.specs.declared.keyword.Measure.TheVariants as counted_as
 use Rattle.json_semantics.specs.Bounds.{Keeps}
@@ -231,23 +232,28 @@ module _ (d e : Tree) (f : KeysRise d) (g : KeysRise e) (s : Same d e) where
   one_of_on (v ∷ vs) r (inl h) = inl (equal_on v r.0 h)
   one_of_on (v ∷ vs) r (inr h) = inr (one_of_on vs r.1 h)
 
-  -- a keyword that d meets, e meets
-  holds_on : (w : Keyword) (v : Tree) → KeysRise v → Holds w v d → Holds w v e
-  holds_on «Type» v r h = (h.0, h.1, type_on d e h.0 s h.2)
-  holds_on Enum v r h = one_of_on (elements_of v) (elements_rise v r) h
-  holds_on Const v r h = equal_on v r h
-  holds_on (Bound op) v r h = bound_on (λ m x. Keeps op x m) (keeps_on op) v d e s h
-  holds_on (Least measure) v r h = limit_on Reaches v (count_of measure d) (count_of measure e) (one_count measure d e s) h
-  holds_on (Greatest measure) v r h = limit_on IsUpTo v (count_of measure d) (count_of measure e) (one_count measure d e s) h
-  holds_on Pattern v r h = subst (λ (o : Option (List ℕ)). IfSome (as_string v) (λ p. IfSome o (Finds p))) (one_string d e s) h
-  holds_on UniqueItems v r h = λ asks. unique_on d e f g s (h asks)
-  holds_on Required v r h = required_on v d e s h
-  holds_on (Silent form) v r h = h
+  -- a keyword that d meets, e meets, but for draft 4's `type`
+  holds_on : (w : Keyword) (v : Tree) → KeysRise v → (w ≡ WrittenType → ⊥) → Holds w v d → Holds w v e
+  holds_on «Type» v r other h = (h.0, h.1, type_on d e h.0 s h.2)
+  holds_on Enum v r other h = one_of_on (elements_of v) (elements_rise v r) h
+  holds_on Const v r other h = equal_on v r h
+  holds_on (Bound op) v r other h = bound_on (λ m x. Keeps op x m) (keeps_on op) v d e s h
+  holds_on (Least measure) v r other h = limit_on Reaches v (count_of measure d) (count_of measure e) (one_count measure d e s) h
+  holds_on (Greatest measure) v r other h = limit_on IsUpTo v (count_of measure d) (count_of measure e) (one_count measure d e s) h
+  holds_on Pattern v r other h = subst (λ (o : Option (List ℕ)). IfSome (as_string v) (λ p. IfSome o (Finds p))) (one_string d e s) h
+  holds_on UniqueItems v r other h = λ asks. unique_on d e f g s (h asks)
+  holds_on Required v r other h = required_on v d e s h
+  holds_on (Silent form) v r other h = h
+  holds_on WrittenType v r other h = absurd (other refl)
 
   -- what d meets, e meets, in whatever order their members stand
   verdict_on : (ps : List (List ℕ × Tree)) → AllByRecursion ValueRises ps → AllByRecursion (HoldsAt d) ps → AllByRecursion (HoldsAt e) ps
   verdict_on [] r h = tt
-  verdict_on (p ∷ ps) r h = (IfSome_then (keyword_of p.0) h.0 (λ w k. holds_on w p.1 r.0 k), verdict_on ps r.1 h.1)
+  verdict_on (p ∷ ps) r h = (at_pair (keyword_of p.0) refl h.0, verdict_on ps r.1 h.1)
+    where
+      at_pair : (o : Option Keyword) → keyword_of p.0 ≡ o → IfSome o (λ w. Holds w p.1 d) → IfSome o (λ w. Holds w p.1 e)
+      at_pair None is k = tt
+      at_pair (Some w) is k = holds_on w p.1 r.0 (λ same. never_written p.0 (is ∙ ap (λ (u : Keyword). let o : Option Keyword = Some u in o) same)) k
 
 -- the other way needs keys that rise: {"a": 1, "a": 1} is the same as {"a": 1, "b": 1} and has no b
 pub same_verdict : (k d e : Tree) → KeysRise k → KeysRise d → KeysRise e → Same d e → Verdict k d ↔ Verdict k e

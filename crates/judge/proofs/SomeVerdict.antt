@@ -15,14 +15,18 @@ use Rattle.json_traits.specs.Names.{name_of}
 use Rattle.json_traits.specs.Numbers.{decimal_in, whole}
 use Rattle.json_traits.specs.declared.types.json_type.JsonType.{JsonType}
 use Rattle.json_traits.specs.declared.types.json_type.JsonType.TheVariants.{Integer}
-use Rattle.judge.specs.Names.{keyword_of}
-use Rattle.judge.specs.Validity.{IsFair, IsValid, Suits}
-use Rattle.judge.specs.Verdict.{Holds, HoldsAt, IsAmong, IsKeyOf, IsNamed, IsOneOf, IsUpTo, Reaches, Verdict, count_of}
+use Rattle.judge.specs.Draft4.{IsOfWrittenType}
+use Rattle.judge.specs.Names.{keyword_by, reading_of}
+use Rattle.judge.specs.Validity.{IsFairBy, IsNarrowBy, IsValidBy, Suits}
+use Rattle.judge.specs.Verdict.{Holds, HoldsAtBy, IsAmong, IsKeyOf, IsNamed, IsOneOf, IsUpTo, Reaches, VerdictBy, count_of}
+use Rattle.judge.specs.declared.draft.Draft.{Draft}
+use Rattle.judge.specs.declared.draft.Reading.{Reading}
 use Rattle.judge.specs.declared.keyword.Keyword.{Keyword}
-use Rattle.judge.specs.declared.keyword.Keyword.TheVariants.{«Type», Enum, Const, Bound, Least, Greatest, Pattern, Required, UniqueItems, Silent}
+use Rattle.judge.specs.declared.keyword.Keyword.TheVariants.{«Type», Enum, Const, Bound, Least, Greatest, Pattern, Required, UniqueItems, Silent, WrittenType}
 use Rattle.judge.proofs.PatternVerdicts.{decided_found}
 use Rattle.judge.proofs.BoundLaws.{at_most}
 use Rattle.judge.proofs.DecidedSame.{decided_same}
+use Rattle.judge.proofs.SomeFault.{decided_written}
 use Rattle.judge.proofs.UniqueLaws.{decided_unique}
 use Rattle.jsonschema_regex.proofs.DecidedPatterns.{Decided}
 use Rattle.judge.proofs.Decided.{decided_all, decided_below, decided_both, decided_either, decided_if, decided_not, decided_some, decided_then, decided_true, decided_type, decided_whole, same_texts, same_truth_values, same_type, truth_of}
@@ -41,9 +45,14 @@ decided_of_type d t =
     decided_either (same_type t (type_of d)) (decided_both (same_type t Integer)
     (decided_both (decided_true (is_number d)) (decided_whole (decimal_in d))))
 
+-- by how it is written
+decided_of_written_type : (d : Tree) (t : JsonType) → Decided (IsOfWrittenType d t)
+decided_of_written_type d t = decided_either (same_type t (type_of d)) (decided_both (same_type t Integer) (decided_written d))
+
 -- one of the named types is the document's
-decided_types : (v d : Tree) → Decided ((t : JsonType) × IsNamed t v × IsOfType d t)
-decided_types v d = elim (decided_type (λ t. IsNamed t v × IsOfType d t) (λ t. decided_both (decided_named t v) (decided_of_type d t))) [
+decided_types : (Of : Tree → JsonType → Type 0) → ((d : Tree) (t : JsonType) → Decided (Of d t)) → (v d : Tree)
+    → Decided ((t : JsonType) × IsNamed t v × Of d t)
+decided_types Of of v d = elim (decided_type (λ t. IsNamed t v × Of d t) (λ t. decided_both (decided_named t v) (of d t))) [
   | inl h ↦ inl (h.0, h.1.0, h.1.1)
   | inr n ↦ inr (λ h. n (h.0, (h.1, h.2)))
 ]
@@ -94,7 +103,7 @@ decided_keeps Gt m x = decided_below m x
 decided_keeps Gte m x = decided_at_most m x
 
 decided_holds : (w : Keyword) (v d : Tree) → Suits w v → Decided (Holds w v d)
-decided_holds «Type» v d suits = decided_types v d
+decided_holds «Type» v d suits = decided_types IsOfType decided_of_type v d
 decided_holds Enum v d suits = decided_one_of d (elements_of v)
 decided_holds Const v d suits = decided_same d v
 decided_holds (Bound op) v d suits = decided_bound (λ m x. Keeps op x m) (decided_keeps op) v d
@@ -103,20 +112,21 @@ decided_holds (Greatest measure) v d suits = decided_limit IsUpTo decided_up_to 
 decided_holds UniqueItems v d suits =
     decided_then (same_truth_values (as_boolean v) (Some true)) (decided_if IsUnique decided_unique (as_array d))
 decided_holds (Silent form) v d suits = inl tt
+decided_holds WrittenType v d suits = decided_types IsOfWrittenType decided_of_written_type v d
 decided_holds Pattern v d suits = decided_found (as_string v) (as_string d) suits.pattern suits.literal
 decided_holds Required v d suits =
     decided_if (λ ps. AllByRecursion (IsKeyOf ps) (elements_of v)) (λ ps. decided_all (IsKeyOf ps) (decided_key ps) (elements_of v)) (as_object d)
 
-decided_at : (d : Tree) (p : List ℕ × Tree) → IsFair p → Decided (HoldsAt d p)
-decided_at d p fair = go (keyword_of p.0) fair
+decided_at : (r : Reading) (d : Tree) (p : List ℕ × Tree) → IsFairBy r p → Decided (HoldsAtBy r d p)
+decided_at r d p fair = go (keyword_by r p.0) fair
   where
-    go : (o : Option Keyword) → IsSomeAnd o (λ w. Suits w p.1) → Decided (IfSome o (λ w. Holds w p.1 d))
+    go : (o : Option Keyword) → IsSomeAnd o (λ w. Suits w p.1 × IsNarrowBy r w p.1) → Decided (IfSome o (λ w. Holds w p.1 d))
     go None fair = absurd fair
-    go (Some w) fair = decided_holds w p.1 d fair
+    go (Some w) fair = decided_holds w p.1 d fair.0
 
-decided_pairs : (d : Tree) (ps : List (List ℕ × Tree)) → AllByRecursion IsFair ps → Decided (AllByRecursion (HoldsAt d) ps)
-decided_pairs d [] fair = inl tt
-decided_pairs d (p ∷ ps) fair = decided_both (decided_at d p fair.0) (decided_pairs d ps fair.1)
+decided_pairs : (r : Reading) (d : Tree) (ps : List (List ℕ × Tree)) → AllByRecursion (IsFairBy r) ps → Decided (AllByRecursion (HoldsAtBy r d) ps)
+decided_pairs r d [] fair = inl tt
+decided_pairs r d (p ∷ ps) fair = decided_both (decided_at r d p fair.0) (decided_pairs r d ps fair.1)
 
-pub some_verdict : (k d : Tree) → IsValid k → (b : Bool) × (IsTrue b ↔ Verdict k d)
-some_verdict k d valid = truth_of (decided_pairs d (pairs_of k) valid.fair)
+pub some_verdict : (draft : Draft) (k d : Tree) → IsValidBy draft k → (b : Bool) × (IsTrue b ↔ VerdictBy draft k d)
+some_verdict draft k d valid = truth_of (decided_pairs (reading_of draft k) d (pairs_of k) valid.fair)

@@ -1,7 +1,9 @@
 -- What answers a line. This project's own.
 use Rattle.std.specs.Prelude.{◌≡◌, ◌⊎◌, ℕ, Bool, true, false, List, [], ◌∷◌, ◌++◌, codes, Option, Some, None, Result, Ok, Err}
 use Rattle.jsonb.specs.HexText.{IsHexText}
-use Rattle.judge.specs.Right.{Right}
+use Rattle.judge.specs.Right.{RightBy}
+use Rattle.judge.specs.declared.draft.Draft.{Draft}
+use Rattle.judge.specs.declared.draft.Draft.TheVariants as drafts
 use Rattle.judge.specs.declared.errors.Fault.{Fault}
 use Rattle.judge.specs.declared.errors.Fault.TheVariants.{Malformed, NotText, NumberTooWide}
 use Rattle.judge.specs.declared.errors.JudgeError.{JudgeError}
@@ -34,13 +36,13 @@ name_of (Err (TooDeep member)) = Some (codes "TooDeep")
 name_of (Err (Document fault)) = Some (codes "Document(" ++ fault_name fault ++ codes ")")
 name_of (Err OutOfMemory) = None
 
--- the line is a pair, and its answer is the printed name of what is right of the two byte slices
-pub record IsJudged (line answer : List ℕ) : Type 0 where
+-- the line is a pair, and its answer is the printed name of what is right of the two byte slices by a draft
+pub record IsJudged (draft : Draft) (line answer : List ℕ) : Type 0 where
   pub keywords : List ℕ
   pub document : List ℕ
   pub verdict : Result Bool JudgeError
   pub pair : IsPair line keywords document
-  pub right : Right keywords document verdict
+  pub right : RightBy draft keywords document verdict
   pub named : name_of verdict ≡ Some answer
 
 -- the line is no pair, and its answer says so
@@ -48,9 +50,13 @@ pub record IsBadLine (line answer : List ℕ) : Type 0 where
   pub no_pair : (keywords document : List ℕ) → IsPair line keywords document → ⊥
   pub named : answer ≡ codes "bad line"
 
+-- the answer to a line of the commands `check` and `check4`, by their draft
+abbrev pub LineAnswerBy : Draft → List ℕ → List ℕ → Type 0
+LineAnswerBy draft line answer = IsJudged draft line answer ⊎ IsBadLine line answer
+
 -- the answer to a line of the command `check`
 abbrev pub LineAnswer : List ℕ → List ℕ → Type 0
-LineAnswer line answer = IsJudged line answer ⊎ IsBadLine line answer
+LineAnswer = LineAnswerBy drafts.Draft2020
 
 -- the text is an answer to each of the lines, in their order, each with the end of a line
 abbrev pub Answers : (List ℕ → List ℕ → Type 0) → List (List ℕ) → List ℕ → Type 0

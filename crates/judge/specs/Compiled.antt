@@ -2,29 +2,44 @@
 -- own. What it is to pass checks is said by the clauses that cite these words, and nowhere else.
 use Rattle.std.specs.Prelude.{List, ℕ, ◌≡◌, ◌↔◌, Some}
 use Rattle.json_model.specs.Tree.{Tree}
-use Rattle.judge.specs.Validity.{HasFault, IsBad, IsBadPattern, IsCopied, IsFair, IsNotLiteral, IsTooDeep, IsUnknown, IsValid, AsksUnique, NeverAsksUnique}
-use Rattle.judge.specs.Verdict.{HoldsAt, Verdict}
+use Rattle.judge.specs.Validity.{AsksUnique, HasFaultBy, IsBadBy, IsBadPatternBy, IsCopiedBy, IsFair, IsNotLiteralBy, IsTooDeepBy, IsUnknownBy, IsValidBy, NeverAsksUniqueBy}
+use Rattle.judge.specs.Verdict.{HoldsAt, VerdictBy}
 use Rattle.judge.specs.inner.Passes.{NeedsNoMemory, Passes}
 use Rattle.judge.specs.declared.checks.Checks.{Checks}
+use Rattle.judge.specs.declared.draft.Draft.{Draft}
+use Rattle.judge.specs.declared.draft.Draft.TheVariants as drafts
+use Rattle.judge.specs.declared.draft.Reading.{Reading}
+use Rattle.judge.specs.declared.draft.Reading.TheVariants as reading
 use Rattle.judge.specs.declared.errors.KeywordError.{KeywordError}
 use Rattle.judge.specs.declared.errors.KeywordError.TheVariants.{NotAnObject, UnknownKeyword, BadKeyword, BadPattern, PatternNotLiteral, TooDeep, OutOfMemory}
 
 -- member number m is p and has the fault e
-abbrev pub IsFault : ℕ → List ℕ × Tree → KeywordError → Type 0
-IsFault m p NotAnObject = ⊥
-IsFault m p (UnknownKeyword n) = (n ≡ m) × IsUnknown p
-IsFault m p (BadKeyword n) = (n ≡ m) × IsBad p
-IsFault m p (BadPattern n) = (n ≡ m) × IsBadPattern p
-IsFault m p (PatternNotLiteral n) = (n ≡ m) × IsNotLiteral p
-IsFault m p (TooDeep n) = (n ≡ m) × IsTooDeep p
-IsFault m p OutOfMemory = IsCopied p
+abbrev pub IsFaultBy : Reading → ℕ → List ℕ × Tree → KeywordError → Type 0
+IsFaultBy r m p NotAnObject = ⊥
+IsFaultBy r m p (UnknownKeyword n) = (n ≡ m) × IsUnknownBy r p
+IsFaultBy r m p (BadKeyword n) = (n ≡ m) × IsBadBy r p
+IsFaultBy r m p (BadPattern n) = (n ≡ m) × IsBadPatternBy r p
+IsFaultBy r m p (PatternNotLiteral n) = (n ≡ m) × IsNotLiteralBy r p
+IsFaultBy r m p (TooDeep n) = (n ≡ m) × IsTooDeepBy r p
+IsFaultBy r m p OutOfMemory = IsCopiedBy r p
 
--- the keyword object t has no fault, and a document passes the checks c exactly where it is valid; where t does not ask for unique
--- elements, the checks need no memory
-pub record IsCompiled (t : Tree) (c : Checks) : Type 0 where
-  pub valid : IsValid t
-  pub passes : (d : Tree) → Passes c d ↔ Verdict t d
-  pub memory : NeverAsksUnique t → NeedsNoMemory c
+-- by a draft the keyword object t has no fault, and a document passes the checks c exactly where it is valid; where t does not ask for
+-- unique elements, the checks need no memory
+pub record IsCompiledBy (draft : Draft) (t : Tree) (c : Checks) : Type 0 where
+  pub valid : IsValidBy draft t
+  pub passes : (d : Tree) → Passes c d ↔ VerdictBy draft t d
+  pub memory : NeverAsksUniqueBy draft t → NeedsNoMemory c
+
+abbrev pub HasThisFaultBy : Draft → Tree → KeywordError → Type 0
+HasThisFaultBy draft t e = HasFaultBy draft t (Some e)
+
+-- ---- by 2020-12
+
+abbrev pub IsFault : ℕ → List ℕ × Tree → KeywordError → Type 0
+IsFault = IsFaultBy reading.Draft2020
+
+abbrev pub IsCompiled : Tree → Checks → Type 0
+IsCompiled = IsCompiledBy drafts.Draft2020
 
 -- the member p has no fault, and a document passes the checks c exactly where it meets p; where p does not ask for unique elements,
 -- the checks need no memory
@@ -34,4 +49,4 @@ pub record IsCompiledMember (p : List ℕ × Tree) (c : Checks) : Type 0 where
   pub memory : (AsksUnique p → ⊥) → NeedsNoMemory c
 
 abbrev pub HasThisFault : Tree → KeywordError → Type 0
-HasThisFault t e = HasFault t (Some e)
+HasThisFault = HasThisFaultBy drafts.Draft2020

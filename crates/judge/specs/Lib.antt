@@ -1,3 +1,4 @@
+pub mod Draft4
 pub mod Names
 pub mod Patterns
 pub mod Verdict

@@ -5,8 +5,10 @@ use Rattle.json_model.specs.Tree.{Tree}
 use Rattle.jsonb.specs.Root.{IsRead}
 use Rattle.jsonb.specs.declared.error.JsonbError.{JsonbError}
 use Rattle.jsonb.specs.declared.error.JsonbError.TheVariants as read
-use Rattle.judge.specs.Validity.{HasFault}
-use Rattle.judge.specs.Verdict.{Verdict}
+use Rattle.judge.specs.Validity.{HasFaultBy}
+use Rattle.judge.specs.Verdict.{VerdictBy}
+use Rattle.judge.specs.declared.draft.Draft.{Draft}
+use Rattle.judge.specs.declared.draft.Draft.TheVariants as drafts
 use Rattle.judge.specs.declared.errors.Fault.TheVariants as faults
 use Rattle.judge.specs.declared.errors.JudgeError.{JudgeError}
 use Rattle.judge.specs.declared.errors.JudgeError.TheVariants.{Keywords, NotAnObject, UnknownKeyword, BadKeyword, BadPattern, PatternNotLiteral, TooDeep, Document, OutOfMemory}
@@ -42,26 +44,33 @@ abbrev pub Answer : Type 0
 Answer = Result Bool JudgeError
 
 -- by what is read of the document
-abbrev pub RightOf : Tree → Result Tree JsonbError → Answer → Type 0
-RightOf k (Err e) r = r ≡ Err (document_error e)
-RightOf k (Ok d) r = (b : Bool) × (r ≡ Ok b) × (IsTrue b ↔ Verdict k d)
+abbrev pub RightOf : Draft → Tree → Result Tree JsonbError → Answer → Type 0
+RightOf _ k (Err e) r = r ≡ Err (document_error e)
+RightOf draft k (Ok d) r = (b : Bool) × (r ≡ Ok b) × (IsTrue b ↔ VerdictBy draft k d)
 
 -- by the fault of the keywords, and then by the document
-abbrev pub RightWith : Tree → Option KeywordError → List ℕ → Answer → Type 0
-RightWith k (Some e) document r = r ≡ Err (keyword_error e)
-RightWith k None document r = (s : Result Tree JsonbError) × IsRead document s × RightOf k s r
+abbrev pub RightWith : Draft → Tree → Option KeywordError → List ℕ → Answer → Type 0
+RightWith _ k (Some e) document r = r ≡ Err (keyword_error e)
+RightWith draft k None document r = (s : Result Tree JsonbError) × IsRead document s × RightOf draft k s r
 
 -- by what is read of the keywords, and then by the rest
-abbrev pub RightFrom : Result Tree JsonbError → List ℕ → Answer → Type 0
-RightFrom (Err e) document r = r ≡ Err (keywords_error e)
-RightFrom (Ok k) document r = (f : Option KeywordError) × HasFault k f × RightWith k f document r
+abbrev pub RightFrom : Draft → Result Tree JsonbError → List ℕ → Answer → Type 0
+RightFrom _ (Err e) document r = r ≡ Err (keywords_error e)
+RightFrom draft (Ok k) document r = (f : Option KeywordError) × HasFaultBy draft k f × RightWith draft k f document r
 
--- r is the right answer to the two slices
-unfoldable pub Right : List ℕ → List ℕ → Answer → Type 0
-Right keywords document r = (s : Result Tree JsonbError) × IsRead keywords s × RightFrom s document r
+-- r is the right answer to the two slices by a draft
+unfoldable pub RightBy : Draft → List ℕ → List ℕ → Answer → Type 0
+RightBy draft keywords document r = (s : Result Tree JsonbError) × IsRead keywords s × RightFrom draft s document r
+
+-- and by 2020-12
+abbrev pub Right : List ℕ → List ℕ → Answer → Type 0
+Right = RightBy drafts.Draft2020
 
 -- ---- the answer to two trees: the first fault of the keywords, or the verdict
 
+abbrev pub RightOnTreesBy : Draft → Tree → Tree → Result Bool KeywordError → Type 0
+RightOnTreesBy draft k d (Err e) = HasFaultBy draft k (Some e)
+RightOnTreesBy draft k d (Ok b) = HasFaultBy draft k None × (IsTrue b ↔ VerdictBy draft k d)
+
 abbrev pub RightOnTrees : Tree → Tree → Result Bool KeywordError → Type 0
-RightOnTrees k d (Err e) = HasFault k (Some e)
-RightOnTrees k d (Ok b) = HasFault k None × (IsTrue b ↔ Verdict k d)
+RightOnTrees = RightOnTreesBy drafts.Draft2020

@@ -13,12 +13,17 @@ use Rattle.json_traits.specs.Allowed.{IsOfType}
 use Rattle.json_traits.specs.Names.{name_of}
 use Rattle.json_traits.specs.Numbers.{whole}
 use Rattle.json_traits.specs.declared.types.json_type.JsonType.{JsonType}
-use Rattle.judge.specs.Names.{keyword_of}
+use Rattle.judge.specs.Draft4.{IsOfWrittenType}
+use Rattle.judge.specs.Names.{keyword_by, reading_of}
 use Rattle.judge.specs.Patterns.{Finds}
+use Rattle.judge.specs.declared.draft.Draft.{Draft}
+use Rattle.judge.specs.declared.draft.Draft.TheVariants as drafts
+use Rattle.judge.specs.declared.draft.Reading.{Reading}
+use Rattle.judge.specs.declared.draft.Reading.TheVariants as reading
 use Rattle.judge.specs.declared.keyword.Measure.{Measure}
 use Rattle.judge.specs.declared.keyword.Measure.TheVariants.{CodePoints, Elements, Members}
 use Rattle.judge.specs.declared.keyword.Keyword.{Keyword}
-use Rattle.judge.specs.declared.keyword.Keyword.TheVariants.{«Type», Enum, Const, Bound, Least, Greatest, Pattern, Required, UniqueItems, Silent}
+use Rattle.judge.specs.declared.keyword.Keyword.TheVariants.{«Type», Enum, Const, Bound, Least, Greatest, Pattern, Required, UniqueItems, Silent, WrittenType}
 
 -- the tree is a string that names the type
 abbrev pub IsNameOf : JsonType → Tree → Type 0
@@ -68,10 +73,19 @@ Holds Pattern v d = IfSome (as_string v) (λ s. IfSome (as_string d) (Finds s))
 Holds UniqueItems v d = as_boolean v ≡ Some true → IfSome (as_array d) IsUnique
 Holds Required v d = IfSome (as_object d) (λ ps. AllByRecursion (IsKeyOf ps) (elements_of v))
 Holds (Silent form) v d = ⊤
+Holds WrittenType v d = (t : JsonType) × IsNamed t v × IsOfWrittenType d t
+
+abbrev pub HoldsAtBy : Reading → Tree → List ℕ × Tree → Type 0
+HoldsAtBy r d p = IfSome (keyword_by r p.0) (λ w. Holds w p.1 d)
+
+-- the document d meets every member of the keyword object k, by a draft
+abbrev pub VerdictBy : Draft → Tree → Tree → Type 0
+VerdictBy draft k d = AllByRecursion (HoldsAtBy (reading_of draft k) d) (pairs_of k)
+
+-- ---- by 2020-12
 
 abbrev pub HoldsAt : Tree → List ℕ × Tree → Type 0
-HoldsAt d p = IfSome (keyword_of p.0) (λ w. Holds w p.1 d)
+HoldsAt = HoldsAtBy reading.Draft2020
 
--- the document d meets every member of the keyword object k
 abbrev pub Verdict : Tree → Tree → Type 0
-Verdict k d = AllByRecursion (HoldsAt d) (pairs_of k)
+Verdict = VerdictBy drafts.Draft2020

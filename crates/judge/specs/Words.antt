@@ -5,6 +5,10 @@ use Rattle.std.specs.Prelude.{◌≡◌, ◌⊎◌, ◌≤◌, ℕ, List, [], �
 abbrev pub IsCheck : List (List ℕ) → Type 0
 IsCheck words = (words ≡ []) ⊎ (words ≡ codes "check" ∷ [])
 
+-- the one word `check4`
+abbrev pub IsCheck4 : List (List ℕ) → Type 0
+IsCheck4 words = words ≡ codes "check4" ∷ []
+
 -- the one word `encode`
 abbrev pub IsEncode : List (List ℕ) → Type 0
 IsEncode words = words ≡ codes "encode" ∷ []
@@ -15,6 +19,6 @@ pub record IsMake (words : List (List ℕ)) (count : ℕ) : Type 0 where
   pub some : 1 ≤ count
   pub most : count ≤ 100000
 
--- the words ask for one of the three
+-- the words ask for one of the four
 abbrev pub AreGood : List (List ℕ) → Type 0
-AreGood words = IsCheck words ⊎ (IsEncode words ⊎ ((count : ℕ) × IsMake words count))
+AreGood words = IsCheck words ⊎ (IsCheck4 words ⊎ (IsEncode words ⊎ ((count : ℕ) × IsMake words count)))

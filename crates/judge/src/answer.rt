@@ -1,11 +1,11 @@
 //! The answer to one line.
 ghost use Rattle.std.specs.Prelude.{◌≡◌, ◌∷◌, ◌++◌, [], ℕ, List, IfOk, IsNone, IsSomeAnd, MatchOption};
 ghost use Rattle.jsonb.specs.HexText.{IsHexText};
-ghost use Rattle.judge.specs.Answers.{IsPair, LineAnswer, name_of};
+ghost use Rattle.judge.specs.Answers.{IsPair, LineAnswerBy, name_of};
 ghost use Rattle.judge.specs.inner.Feeding.{AnswersOne};
 
 use crate::cut::cut_at;
-use crate::{Fault, JudgeError, judge};
+use crate::{Draft, Fault, JudgeError, judge_draft};
 use jsonb::encode::{HexError, decode_hex};
 use std::alloc::{AllocError, Global};
 use std::convert::AsSlice;
@@ -24,11 +24,13 @@ pub(crate) trait Command {
             AnswersOne (is_answer self.now) line.now (Self.Answer.items text)) };
 }
 
-// The command `check`, which judges the two slices of a line.
-pub(crate) struct CheckCommand;
+// The commands `check` and `check4`, which judge the two slices of a line by their draft.
+pub(crate) struct CheckCommand {
+    pub(crate) draft: Draft,
+}
 
 impl Command for CheckCommand {
-    ghost is_answer = { λ _. LineAnswer };
+    ghost is_answer = { λ c. LineAnswerBy c.draft };
 
     type Answer = &'static [u8];
 
@@ -36,7 +38,7 @@ impl Command for CheckCommand {
         let Some((keywords, document)) = read_pair(alloc, line)? else {
             return Ok(b"bad line\n");
         };
-        printed(judge(alloc, &keywords, &document)).ok_or(AllocError)
+        printed(judge_draft(alloc, self.draft, &keywords, &document)).ok_or(AllocError)
     }
 }
 

@@ -4,22 +4,25 @@ ghost use Rattle.std.specs.Prelude.{ℕ, ◌≡◌, ◌↔◌, ◌⊎◌, ◌≤
 ghost use Rattle.json_model.specs.Parts.{as_array};
 ghost use Rattle.json_model.specs.Nest.{nest};
 ghost use Rattle.json_model.specs.Tree.{Tree};
-ghost use Rattle.judge.specs.Names.{keyword_of};
-ghost use Rattle.judge.specs.Compiled.{HasThisFault, IsCompiled, IsCompiledMember, IsFault};
+ghost use Rattle.judge.specs.Names.{keyword_by, reading_of};
+ghost use Rattle.judge.specs.Compiled.{HasThisFault, HasThisFaultBy, IsCompiled, IsCompiledBy, IsCompiledMember, IsFault, IsFaultBy};
 ghost use Rattle.judge.specs.inner.Passes.{AddFault, Adds, HasRoom, IsFree, Meets, MeetsUnique, NeedsNoMemory, Passes, Took};
 ghost use Rattle.judge.specs.Verdict.{count_of};
-ghost use Rattle.judge.specs.Validity.{IsCopied, IsFirst, IsLean};
+ghost use Rattle.judge.specs.Validity.{IsCopied, IsCopiedBy, IsFirst, IsFirstBy, IsLean, IsLeanBy};
 ghost use Rattle.judge.specs.declared.keyword.Keyword.{Keyword};
 
 use crate::bounds::Bounds;
+use crate::draft::{Draft, Reading};
 use crate::errors::KeywordError;
 use crate::kept::{meets_constant, meets_listed, read_constant, read_listed};
 use crate::keyword::{Keyword, Measure};
 use crate::limits::{Limit, Limits};
 use crate::meets::{
     meets_bounds, meets_code_points, meets_elements, meets_members, meets_types, meets_unique,
+    meets_written_types,
 };
 use crate::names::{meets_required, read_names};
+use crate::narrow::is_narrow_by;
 use crate::patterns::{meets_pattern, read_pattern};
 use crate::read::{read_bound, read_limit, read_silent, read_truth, read_types};
 use json_exact::{OutOfMemory, Value};
@@ -33,6 +36,7 @@ use std::alloc::Global;
 #[derive(Drop)]
 pub struct Checks {
     types: Option<JsonTypeSet>,
+    written_types: Option<JsonTypeSet>,
     listed: Option<Vec<Value>>,
     constant: Option<Value>,
     bounds: Bounds,
@@ -53,6 +57,7 @@ impl Checks {
     {
         Checks {
             types: None,
+            written_types: None,
             listed: None,
             constant: None,
             bounds: Bounds::none(),
@@ -120,29 +125,35 @@ impl Checks {
             Keyword::UniqueItems => self.unique = read_truth(value, member)?,
             Keyword::Required => self.required = Some(read_names(alloc, value, member)?),
             Keyword::Silent(form) => read_silent(form, value, member)?,
+            Keyword::WrittenType => self.written_types = Some(read_types(value, member)?),
         }
         Ok(())
     }
 
-    /// Takes in member number `member`.
+    /// Takes in member number `member` of an object whose names are so read.
     fn take_member<'a, N: Node<'a>>(
         &mut self,
         alloc: Global,
+        reading: Reading,
         name: &str,
         value: &N,
         member: usize,
     ) -> Result<(), KeywordError>
-        requires { (w : Keyword) → keyword_of name.now ≡ Some w → IsFree w self.old }
-        ensures ok { OnOk result (Took self.old (name.now, N.tree value.now) self.new) }
-        ensures err { IfErr result (IsFault member (name.now, N.tree value.now)) }
+        requires { (w : Keyword) → keyword_by reading name.now ≡ Some w → IsFree w self.old }
+        ensures ok { OnOk result (Took reading self.old (name.now, N.tree value.now) self.new) }
+        ensures err { IfErr result (IsFaultBy reading member (name.now, N.tree value.now)) }
     {
-        match Keyword::from_name(name) {
-            Some(keyword) => self.add(alloc, keyword, value, member),
-            None => Err(KeywordError::UnknownKeyword { member }),
+        let Some(keyword) = Keyword::from_name(reading, name) else {
+            return Err(KeywordError::UnknownKeyword { member });
+        };
+        match is_narrow_by(alloc, reading, keyword, value) {
+            Ok(true) => self.add(alloc, keyword, value, member),
+            Ok(false) => Err(KeywordError::BadKeyword { member }),
+            Err(OutOfMemory) => Err(KeywordError::OutOfMemory),
         }
     }
 
-    /// The checks of one keyword, as member number `member` of its object. The error is that member's fault, or want of memory,
+    /// The checks of one keyword of 2020-12, as member number `member` of its object. The error is that member's fault, or want of memory,
     /// which comes of `required` and `enum` with a list, of `const`, and of `pattern` with a string, alone. A pattern of 2^30 bytes or
     /// more that is not literal gets it too.
     pub fn of_member<'a, N: Node<'a>>(
@@ -155,15 +166,13 @@ impl Checks {
         ensures err { IfErr result (IsFault member (name.now, N.tree value.now)) }
     {
         let mut checks = Checks::empty();
-        match checks.take_member(alloc, name, value, member) {
+        match checks.take_member(alloc, Reading::Draft2020, name, value, member) {
             Ok(()) => Ok(checks),
             Err(error) => Err(error),
         }
     }
 
-    /// Compiles a keyword object, whose members it walks once, in key order. The error is that of the first faulty member.
-    /// It takes memory for the names that `required` lists, for the values of `enum` and `const`, and for a pattern, alone: no
-    /// other keyword object gets want of memory. A pattern of 2^30 bytes or more that is not literal gets it too.
+    /// Compiles a keyword object of 2020-12, as [`Checks::compile_draft`] does.
     pub fn compile<'a, N: Node<'a>>(alloc: Global, root: &N) -> Result<Checks, KeywordError>
         ensures right { (result ≡ Err KeywordError.OutOfMemory)
             ⊎ MatchResult result (IsCompiled (N.tree root.now)) (HasThisFault (N.tree root.now)) }
@@ -172,15 +181,34 @@ impl Checks {
         ensures free { nest (N.tree root.now) ≤ 1 → IsLean (N.tree root.now)
             → result ≡ Err KeywordError.OutOfMemory → ⊥ }
     {
+        Checks::compile_draft(alloc, Draft::Draft2020, root)
+    }
+
+    /// Compiles a keyword object of a draft, whose members it walks once, in key order. The error is that of the first faulty member.
+    /// It takes memory for the names that `required` lists, for the values of `enum` and `const`, and for a pattern, alone: no
+    /// other keyword object gets want of memory. A pattern of 2^30 bytes or more that is not literal gets it too.
+    pub fn compile_draft<'a, N: Node<'a>>(
+        alloc: Global,
+        draft: Draft,
+        root: &N,
+    ) -> Result<Checks, KeywordError>
+        ensures right { (result ≡ Err KeywordError.OutOfMemory)
+            ⊎ MatchResult result (IsCompiledBy draft (N.tree root.now)) (HasThisFaultBy draft (N.tree root.now)) }
+        ensures memory { result ≡ Err KeywordError.OutOfMemory
+            → (m : ℕ) × IsFirstBy draft (N.tree root.now) m (IsCopiedBy (reading_of draft (N.tree root.now))) }
+        ensures free { nest (N.tree root.now) ≤ 1 → IsLeanBy draft (N.tree root.now)
+            → result ≡ Err KeywordError.OutOfMemory → ⊥ }
+    {
         let Some(object) = root.as_object() else {
             return Err(KeywordError::NotAnObject);
         };
+        let reading = Reading::of::<N>(draft, &object);
         let count = object.len();
         let mut checks = Checks::empty();
         let mut member = 0;
         for (name, value) in object.members() {
             prove!(member < count);
-            match checks.take_member(alloc, name, &value, member) {
+            match checks.take_member(alloc, reading, name, &value, member) {
                 Ok(()) => member += 1,
                 Err(error) => return Err(error),
             }
@@ -195,6 +223,7 @@ impl Checks {
         ensures some { Passes self.now (N.tree node.now) → IsTrue result }
     {
         meets_types(self.types, node)
+            && meets_written_types(self.written_types, node)
             && meets_listed(&self.listed, node)
             && meets_constant(&self.constant, node)
             && meets_bounds(&self.bounds, node)

@@ -27,7 +27,7 @@ pub enum KeywordError {
     /// The keywords are no object, as `[]`.
     #[error("NotAnObject")]
     NotAnObject,
-    /// The first faulty member has none of the names of keywords, as in `{"x":1}`.
+    /// The first faulty member has none of the names of its draft, as in `{"x":1}`.
     #[error("UnknownKeyword")]
     UnknownKeyword { member: usize },
     /// The first faulty member's value has not the form that its keyword asks for, as in `{"type":"x"}`.
@@ -59,7 +59,7 @@ pub enum JudgeError {
     /// The keywords are no object, as `00000040`, the empty array.
     #[error("NotAnObject")]
     NotAnObject,
-    /// The first faulty member has none of the names of keywords, as in `{"x":1}`.
+    /// The first faulty member has none of the names of its draft, as in `{"x":1}`.
     #[error("UnknownKeyword")]
     UnknownKeyword { member: usize },
     /// The first faulty member's value has not the form that its keyword asks for, as in `{"type":"x"}`.

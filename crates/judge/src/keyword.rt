@@ -1,9 +1,12 @@
 //! The keywords, and their names.
 
-ghost use Rattle.std.specs.Prelude.{◌≡◌, bytes_eq};
+ghost use Rattle.std.specs.Prelude.{◌≡◌, bytes_eq, if◌then◌else◌};
 ghost use Rattle.std.specs.List.{list_any};
-ghost use Rattle.judge.specs.Names.{keyword_of};
+ghost use Rattle.json_model.specs.Parts.{lookup};
+ghost use Rattle.judge.specs.Draft4.{draft4_names};
+ghost use Rattle.judge.specs.Names.{keyword_by, names_2020};
 
+use crate::draft::{Partners, Reading};
 use json_semantics::numeric_check::BoundOp;
 
 /// What of a document a limit counts.
@@ -28,6 +31,17 @@ pub(crate) enum Form {
     Truth,
     /// An array.
     Array,
+    /// No value.
+    Nothing,
+}
+
+impl Form {
+    /// The form of a truth value that must stand beside another member.
+    fn beside(is_there: bool) -> Form
+        ensures { result ≡ (if is_there then Form.Truth else Form.Nothing) }
+    {
+        if is_there { Form::Truth } else { Form::Nothing }
+    }
 }
 
 /// A keyword. Keywords that ask alike are one variant.
@@ -51,23 +65,20 @@ pub(crate) enum Keyword {
     UniqueItems,
     /// An object has each of these keys: `required`.
     Required,
-    /// Nothing is asked of the document: `title` and its like, whose value has a form.
+    /// Nothing is asked of the document: `title` and its like, whose value has a form. So is `exclusiveMinimum` in draft 4, which says how
+    /// `minimum` is meant.
     Silent(Form),
+    /// The document is of a type, by how it is written: `type` in draft 4, where 1.0 is no integer.
+    WrittenType,
 }
 
 impl Keyword {
-    /// The keyword of a name, if there is one.
-    pub(crate) fn from_name(name: &str) -> Option<Keyword>
-        ensures { result ≡ keyword_of name.now }
+    /// The keyword of a name in an object whose names are so read, if there is one.
+    pub(crate) fn from_name(reading: Reading, name: &str) -> Option<Keyword>
+        ensures { result ≡ keyword_by reading name.now }
     {
         match name {
-            "type" => Some(Keyword::Type),
             "enum" => Some(Keyword::Enum),
-            "const" => Some(Keyword::Const),
-            "minimum" => Some(Keyword::Bound(BoundOp::Gte)),
-            "maximum" => Some(Keyword::Bound(BoundOp::Lte)),
-            "exclusiveMinimum" => Some(Keyword::Bound(BoundOp::Gt)),
-            "exclusiveMaximum" => Some(Keyword::Bound(BoundOp::Lt)),
             "minLength" => Some(Keyword::Least(Measure::CodePoints)),
             "maxLength" => Some(Keyword::Greatest(Measure::CodePoints)),
             "minItems" => Some(Keyword::Least(Measure::Elements)),
@@ -80,11 +91,43 @@ impl Keyword {
             "title" => Some(Keyword::Silent(Form::Text)),
             "description" => Some(Keyword::Silent(Form::Text)),
             "default" => Some(Keyword::Silent(Form::Anything)),
+            _ => match reading {
+                Reading::Draft2020 => Keyword::of_2020(name),
+                Reading::Draft4(partners) => Keyword::of_draft_4(partners, name),
+            },
+        }
+    }
+
+    /// The keyword of a name of 2020-12 alone.
+    fn of_2020(name: &str) -> Option<Keyword>
+        ensures { result ≡ lookup name.now names_2020 }
+    {
+        match name {
+            "type" => Some(Keyword::Type),
+            "const" => Some(Keyword::Const),
+            "minimum" => Some(Keyword::Bound(BoundOp::Gte)),
+            "maximum" => Some(Keyword::Bound(BoundOp::Lte)),
+            "exclusiveMinimum" => Some(Keyword::Bound(BoundOp::Gt)),
+            "exclusiveMaximum" => Some(Keyword::Bound(BoundOp::Lt)),
             "examples" => Some(Keyword::Silent(Form::Array)),
             "deprecated" => Some(Keyword::Silent(Form::Truth)),
             "readOnly" => Some(Keyword::Silent(Form::Truth)),
             "writeOnly" => Some(Keyword::Silent(Form::Truth)),
             "$comment" => Some(Keyword::Silent(Form::Text)),
+            _ => None,
+        }
+    }
+
+    /// The keyword of a name that draft 4 reads in its own way.
+    fn of_draft_4(partners: Partners, name: &str) -> Option<Keyword>
+        ensures { result ≡ lookup name.now (draft4_names partners) }
+    {
+        match name {
+            "type" => Some(Keyword::WrittenType),
+            "minimum" => Some(Keyword::Bound(partners.lower())),
+            "maximum" => Some(Keyword::Bound(partners.upper())),
+            "exclusiveMinimum" => Some(Keyword::Silent(Form::beside(partners.has_minimum))),
+            "exclusiveMaximum" => Some(Keyword::Silent(Form::beside(partners.has_maximum))),
             _ => None,
         }
     }

@@ -4,8 +4,9 @@ ghost use Rattle.std.specs.Prelude.{◌≡◌, ◌↔◌, Bool, Result, IsTrue, 
 ghost use Rattle.judge.specs.inner.Passes.{Passes};
 ghost use Rattle.json_exact.specs.Trees.{tree};
 ghost use Rattle.json_model.specs.Same.{Same};
-ghost use Rattle.judge.specs.Right.{Answer, Right, RightOnTrees};
+ghost use Rattle.judge.specs.Right.{Answer, RightBy, RightOnTrees};
 ghost use Rattle.judge.specs.Verdict.{Verdict};
+ghost use Rattle.judge.specs.declared.draft.Draft.{Draft};
 ghost use Rattle.judge.specs.declared.errors.KeywordError.{KeywordError};
 
 use crate::checks::Checks;
@@ -15,18 +16,18 @@ use json_traits::Node;
 use json_traits::laws::keys_rise;
 use std::alloc::Global;
 
-/// Each pair of slices has at most one right answer.
+/// Each pair of slices has at most one right answer by each draft.
 pub fn one_answer(keywords: &[u8], document: &[u8])
-    ensures { (r q : Answer)
-        → Right keywords.now document.now r → Right keywords.now document.now q → r ≡ q }
+    ensures { (draft : Draft) → (r q : Answer)
+        → RightBy draft keywords.now document.now r → RightBy draft keywords.now document.now q → r ≡ q }
 {
     let _keywords = keywords.len();
     let _document = document.len();
 }
 
-/// Each pair of slices has a right answer.
+/// Each pair of slices has a right answer by each draft.
 pub fn some_answer(keywords: &[u8], document: &[u8])
-    ensures { (r : Answer) × Right keywords.now document.now r }
+    ensures { (draft : Draft) → (r : Answer) × RightBy draft keywords.now document.now r }
 {
     let _keywords = keywords.len();
     let _document = document.len();
@@ -51,7 +52,7 @@ pub fn some_answer_on_values(keywords: &Value, document: &Value)
     let _document = ValueNode::new(document);
 }
 
-/// Documents that are equal by JSON equality have one verdict under each keyword object, whatever holds the three: 1 is
+/// Documents that are equal by JSON equality have one verdict under each keyword object of 2020-12, whatever holds the three: 1 is
 /// 1.0. It passes over each of the three once, by recursion as deep as it nests, and takes no memory.
 pub fn equal_documents_have_one_verdict<'a, K: Node<'a>, M: Node<'a>, N: Node<'a>>(
     keywords: &K,

@@ -11,9 +11,11 @@
 //! keyword object is refused, and mostly where, is a [`KeywordError`]. Nodes of one tree get one verdict ([`laws::one_verdict`]).
 //!
 //! The keywords are `type`, `enum`, `const`, the four bounds of numbers, the least and greatest counts of code points, elements and
-//! members, `uniqueItems`, `pattern` and `required`. Eight more, as `title`, ask nothing. A `pattern` is taken where it is literal, as
-//! `^x-` and `^(a|b)$`:
+//! members, `uniqueItems`, `pattern` and `required`, and the eight that ask nothing of a document, as `title`. A `pattern` is taken where it is literal, as `^x-` and `^(a|b)$`:
 //! `jsonschema_regex` says which those are.
+//!
+//! [`judge_draft`] and [`Checks::compile_draft`] take keywords of [`Draft`] 4 too, where 1.0 is no integer and `exclusiveMinimum` is a truth
+//! value.
 //!
 //! [`run`] is the program. With no words it reads lines from a [`Source`], judges each, and writes one line of answer for each to a
 //! [`Sink`]. A line is two hex texts with one space between, the keywords and the document. For example the lines
@@ -30,7 +32,7 @@
 //! bad line
 //! ```
 //!
-//! With the word `encode` a line is JSON text, as `null`, and its answer is the hex of the bytes that stand for it, as
+//! With the word `check4` each pair is judged by draft 4. With the word `encode` a line is JSON text, as `null`, and its answer is the hex of the bytes that stand for it, as
 //! `01000050000000c0`, or why there are none. With `make` and a number it reads nothing: it judges that many pairs of its own, and
 //! writes how many are valid.
 //!
@@ -43,6 +45,7 @@ mod bounds;
 mod checks;
 mod code;
 mod cut;
+mod draft;
 mod errors;
 mod kept;
 mod keyword;
@@ -53,6 +56,7 @@ mod make;
 mod meets;
 mod memory;
 mod names;
+mod narrow;
 mod patterns;
 mod program;
 mod read;
@@ -66,6 +70,7 @@ mod verdict;
 mod words;
 
 pub use checks::Checks;
+pub use draft::Draft;
 pub use errors::{Fault, JudgeError, KeywordError};
 pub use memory::{MemorySink, MemorySource};
 pub use program::run;
@@ -73,4 +78,4 @@ pub use status::Status;
 pub use steady::{SteadySink, SteadySource};
 pub use stream::{Failed, Sink, SinkError, Source};
 pub use values::judge_values;
-pub use verdict::judge;
+pub use verdict::{judge, judge_draft};

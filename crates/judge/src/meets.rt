@@ -3,14 +3,15 @@
 ghost use Rattle.std.specs.Prelude.{◌≡◌, ◌↔◌, ◌⊎◌, false, None, IsOk, IsTrue, IfOk, IfSome};
 ghost use Rattle.json_model.specs.Parts.{as_array, as_number};
 ghost use Rattle.json_traits.specs.Allowed.{AllowsType};
-ghost use Rattle.judge.specs.inner.Passes.{IsBetween, KeepsAll, MeetsUnique};
+ghost use Rattle.judge.specs.inner.Passes.{AllowsWritten, IsBetween, KeepsAll, MeetsUnique};
 ghost use Rattle.judge.specs.Verdict.{count_of};
 ghost use Rattle.judge.specs.declared.keyword.Measure.TheVariants as measures;
 
 use crate::bounds::Bounds;
 use crate::limits::Limits;
+use crate::narrow::is_written_whole;
 use json_exact::OutOfMemory;
-use json_traits::types::JsonTypeSet;
+use json_traits::types::{JsonType, JsonTypeSet};
 use json_traits::{Array, JsonNumber, Node, Object};
 use std::alloc::Global;
 
@@ -22,6 +23,23 @@ pub(crate) fn meets_types<'a, N: Node<'a>>(types: Option<JsonTypeSet>, node: &N)
         Some(set) => set.contains_value_type(node),
         None => true,
     }
+}
+
+/// Whether a value is of a type of the set, by how it is written.
+pub(crate) fn meets_written_types<'a, N: Node<'a>>(types: Option<JsonTypeSet>, node: &N) -> bool
+    ensures { IsTrue result ↔ IfSome types (λ set. AllowsWritten set (N.tree node.now)) }
+{
+    match types {
+        Some(set) => allows_written(set, node),
+        None => true,
+    }
+}
+
+/// Whether a set holds a type of a value, by how it is written.
+fn allows_written<'a, N: Node<'a>>(set: JsonTypeSet, node: &N) -> bool
+    ensures { IsTrue result ↔ AllowsWritten set (N.tree node.now) }
+{
+    set.contains(node.json_type()) | (set.contains(JsonType::Integer) & is_written_whole(node))
 }
 
 /// Whether a value is no number, or one that keeps every bound. The number is read once.

@@ -1,26 +1,26 @@
 //! The program's run.
 ghost use Rattle.std.specs.Prelude.{◌≡◌, ◌≢◌, ◌⊎◌, ◌↔◌, ◌<◌, ◌^◌, ℕ, List, Some, length, map, string_bytes, IsTrue};
-ghost use Rattle.judge.specs.Answers.{LineAnswer};
+ghost use Rattle.judge.specs.Answers.{LineAnswer, LineAnswerBy};
 ghost use Rattle.judge.specs.Codes.{CodeAnswer};
 ghost use Rattle.judge.specs.Faults.{CountsOnce, Rose};
 ghost use Rattle.judge.specs.Lines.{AreShort, lines_of};
 ghost use Rattle.judge.specs.Made.{Made};
 ghost use Rattle.judge.specs.Ran.{Ran};
-ghost use Rattle.judge.specs.Words.{AreGood, IsCheck, IsEncode, IsMake};
+ghost use Rattle.judge.specs.Words.{AreGood, IsCheck, IsCheck4, IsEncode, IsMake};
 
 use crate::answer::{CheckCommand, Command};
 use crate::code::EncodeCommand;
 use crate::lines::{feed, finish};
 use crate::make::make;
 use crate::words::{Request, read_words};
-use crate::{Sink, Source, Status};
+use crate::{Draft, Sink, Source, Status};
 use std::alloc::Global;
 
 // Each turn takes at least one byte.
 const MAX_TURNS: u64 = 1 << 48;
 
 /// Does what the words ask for: with no word, or with the word `check`, it judges the pair of each line that the source has left; with
-/// `encode` it gives the bytes of the JSON text of each; with `make` and a number from 1 to 100000 it judges that many pairs of its own,
+/// `check4` it judges by draft 4; with `encode` it gives the bytes of the JSON text of each; with `make` and a number from 1 to 100000 it judges that many pairs of its own,
 /// and counts them.
 ///
 /// It reads 4,096 bytes at a time, answers each line that ended before it reads again, and hands each answer with the
@@ -37,6 +37,9 @@ pub fn run<S: Source, K: Sink>(
         → (source.new ≡ source.old) × (sink.new ≡ sink.old) }
     ensures check { IsCheck (map string_bytes words.now)
         → Ran LineAnswer (S.left source.old) (S.left source.new)
+        (K.written sink.old) (K.written sink.new) result }
+    ensures check4 { IsCheck4 (map string_bytes words.now)
+        → Ran (LineAnswerBy Draft.Draft4) (S.left source.old) (S.left source.new)
         (K.written sink.old) (K.written sink.new) result }
     ensures encode { IsEncode (map string_bytes words.now)
         → Ran CodeAnswer (S.left source.old) (S.left source.new)
@@ -67,7 +70,22 @@ pub fn run<S: Source, K: Sink>(
         → (result ≡ Status.Done) ⊎ (result ≡ Status.OutOfMemory) }
 {
     match read_words(words) {
-        Some(Request::Check) => answer_lines(&CheckCommand, alloc, source, sink),
+        Some(Request::Check) => answer_lines(
+            &CheckCommand {
+                draft: Draft::Draft2020,
+            },
+            alloc,
+            source,
+            sink,
+        ),
+        Some(Request::Check4) => answer_lines(
+            &CheckCommand {
+                draft: Draft::Draft4,
+            },
+            alloc,
+            source,
+            sink,
+        ),
         Some(Request::Encode) => answer_lines(&EncodeCommand, alloc, source, sink),
         Some(Request::Make(count)) => make(alloc, count, sink),
         None => Status::BadWords,

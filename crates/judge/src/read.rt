@@ -122,6 +122,7 @@ fn is_of_form<'a, N: Node<'a>>(form: Form, value: &N) -> bool
         Form::Text => value.is_string(),
         Form::Truth => value.as_boolean().is_some(),
         Form::Array => value.as_array().is_some(),
+        Form::Nothing => false,
     }
 }
 

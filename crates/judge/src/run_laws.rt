@@ -1,33 +1,36 @@
 //! Laws of the answers to lines, for all inputs. What a function here is for is its contract.
 
 ghost use Rattle.std.specs.Prelude.{◌≡◌, ◌++◌, ℕ, List, IsSome};
-ghost use Rattle.judge.specs.Answers.{Answers, LineAnswer, name_of};
+ghost use Rattle.judge.specs.Answers.{Answers, LineAnswerBy, name_of};
 ghost use Rattle.judge.specs.Codes.{CodeAnswer};
 ghost use Rattle.judge.specs.Lines.{lines_of};
 ghost use Rattle.judge.specs.Made.{IsMadeText, IsSummary};
 ghost use Rattle.judge.specs.Ran.{Agrees};
-ghost use Rattle.judge.specs.Right.{Answer, Right};
+ghost use Rattle.judge.specs.Right.{Answer, RightBy};
+ghost use Rattle.judge.specs.declared.draft.Draft.{Draft};
 ghost use Rattle.judge.specs.declared.status.Status.{Status};
 
 /// Each right answer of two slices has a printed name: want of memory is right of none.
 pub fn right_answers_have_names()
-    ensures { (keywords document : List ℕ) → (r : Answer)
-        → Right keywords document r → IsSome (name_of r) }
+    ensures { (draft : Draft) → (keywords document : List ℕ) → (r : Answer)
+        → RightBy draft keywords document r → IsSome (name_of r) }
 {}
 
-/// Each line has one answer, of either command.
+/// Each line has one answer, of each command.
 pub fn a_line_has_one_answer()
-    ensures some_check { (line : List ℕ) → (answer : List ℕ) × LineAnswer line answer }
-    ensures one_check { (line a b : List ℕ) → LineAnswer line a → LineAnswer line b → a ≡ b }
+    ensures some_check { (draft : Draft) → (line : List ℕ) → (answer : List ℕ) × LineAnswerBy draft line answer }
+    ensures one_check { (draft : Draft) → (line a b : List ℕ)
+        → LineAnswerBy draft line a → LineAnswerBy draft line b → a ≡ b }
     ensures some_encode { (line : List ℕ) → (answer : List ℕ) × CodeAnswer line answer }
     ensures one_encode { (line a b : List ℕ) → CodeAnswer line a → CodeAnswer line b → a ≡ b }
 {}
 
-/// Each input has one text of answers, of either command.
+/// Each input has one text of answers, of each command.
 pub fn an_input_has_one_text_of_answers()
-    ensures some_check { (input : List ℕ) → (text : List ℕ) × Answers LineAnswer (lines_of input) text }
-    ensures one_check { (input s t : List ℕ)
-        → Answers LineAnswer (lines_of input) s → Answers LineAnswer (lines_of input) t → s ≡ t }
+    ensures some_check { (draft : Draft) → (input : List ℕ)
+        → (text : List ℕ) × Answers (LineAnswerBy draft) (lines_of input) text }
+    ensures one_check { (draft : Draft) → (input s t : List ℕ)
+        → Answers (LineAnswerBy draft) (lines_of input) s → Answers (LineAnswerBy draft) (lines_of input) t → s ≡ t }
     ensures some_encode { (input : List ℕ) → (text : List ℕ) × Answers CodeAnswer (lines_of input) text }
     ensures one_encode { (input s t : List ℕ)
         → Answers CodeAnswer (lines_of input) s → Answers CodeAnswer (lines_of input) t → s ≡ t }
@@ -35,8 +38,8 @@ pub fn an_input_has_one_text_of_answers()
 
 /// At each status, what a run wrote is a beginning of the answers to what it took.
 pub fn what_is_written_begins_the_answers()
-    ensures check { (status : Status) → (taken text answers : List ℕ)
-        → Agrees LineAnswer status taken text → Answers LineAnswer (lines_of taken) answers
+    ensures check { (draft : Draft) → (status : Status) → (taken text answers : List ℕ)
+        → Agrees (LineAnswerBy draft) status taken text → Answers (LineAnswerBy draft) (lines_of taken) answers
         → (rest : List ℕ) × (answers ≡ text ++ rest) }
     ensures encode { (status : Status) → (taken text answers : List ℕ)
         → Agrees CodeAnswer status taken text → Answers CodeAnswer (lines_of taken) answers

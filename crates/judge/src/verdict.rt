@@ -5,10 +5,11 @@ ghost use Rattle.json_model.specs.Json.{IsJson};
 ghost use Rattle.json_model.specs.Nest.{nest};
 ghost use Rattle.json_model.specs.Tree.{Tree};
 ghost use Rattle.jsonb_layout.specs.Stands.{Stands};
-ghost use Rattle.judge.specs.Right.{Right};
-ghost use Rattle.judge.specs.Validity.{ChecksFreely, IsLean, IsValid};
+ghost use Rattle.judge.specs.Right.{Right, RightBy};
+ghost use Rattle.judge.specs.Validity.{ChecksFreely, ChecksFreelyBy, IsLean, IsLeanBy, IsValid, IsValidBy};
 
 use crate::checks::Checks;
+use crate::draft::Draft;
 use crate::errors::JudgeError;
 use json_exact::OutOfMemory;
 use jsonb::Jsonb;
@@ -28,11 +29,29 @@ pub fn judge(alloc: Global, keywords: &[u8], document: &[u8]) -> Result<bool, Ju
     ensures free { (t u : Tree) → Stands keywords.now t → nest t ≤ 1 → IsLean t
         → Stands document.now u → nest u ≤ 1 → ChecksFreely t u → result ≡ Err JudgeError.OutOfMemory → ⊥ }
 {
+    judge_draft(alloc, Draft::Draft2020, keywords, document)
+}
+
+/// Whether the document is valid under the keyword object by a draft of JSON Schema, as [`judge`] answers by 2020-12.
+///
+/// For example 1.0 is valid under `{"type":"integer"}` by 2020-12, and is not by draft 4.
+pub fn judge_draft(
+    alloc: Global,
+    draft: Draft,
+    keywords: &[u8],
+    document: &[u8],
+) -> Result<bool, JudgeError>
+    ensures right { (result ≡ Err JudgeError.OutOfMemory) ⊎ RightBy draft keywords.now document.now result }
+    ensures refused { (t : Tree) → Stands keywords.now t → nest t ≤ 1 → IsLeanBy draft t
+        → (IsJson t × IsValidBy draft t → ⊥) → result ≡ Err JudgeError.OutOfMemory → ⊥ }
+    ensures free { (t u : Tree) → Stands keywords.now t → nest t ≤ 1 → IsLeanBy draft t
+        → Stands document.now u → nest u ≤ 1 → ChecksFreelyBy draft t u → result ≡ Err JudgeError.OutOfMemory → ⊥ }
+{
     let root = match Jsonb::root(alloc, keywords) {
         Ok(root) => root,
         Err(error) => return Err(JudgeError::of_keywords(error)),
     };
-    let checks = match Checks::compile(alloc, &root) {
+    let checks = match Checks::compile_draft(alloc, draft, &root) {
         Ok(checks) => checks,
         Err(error) => return Err(JudgeError::of_keyword(error)),
     };

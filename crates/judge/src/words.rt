@@ -7,6 +7,8 @@ ghost use Rattle.judge.specs.inner.Requests.{IsAsked, IsBare, IsCount};
 pub(crate) enum Request {
     /// Judge the pair of each line.
     Check,
+    /// Judge the pair of each line by draft 4.
+    Check4,
     /// Encode the JSON text of each line.
     Encode,
     /// Judge this many pairs of the program's own, and count them.
@@ -33,6 +35,7 @@ fn read_word(word: &str) -> Option<Request>
 {
     match word {
         "check" => Some(Request::Check),
+        "check4" => Some(Request::Check4),
         "encode" => Some(Request::Encode),
         _ => None,
     }

@@ -10,7 +10,7 @@ use Rattle.jsonb.specs.declared.node.JsonbNode.{JsonbNode}
 use Rattle.judge.proofs.Answering.{err_is, err}
 use Rattle.judge.specs.Compiled.{IsCompiled, HasThisFault}
 use Rattle.judge.specs.inner.Passes.{Passes}
-use Rattle.judge.specs.Right.{Answer, Right, keywords_error, document_error, keyword_error}
+use Rattle.judge.specs.Right.{Answer, Right, RightBy, keywords_error, document_error, keyword_error}
 use Rattle.judge.specs.declared.checks.Checks.{Checks}
 use Rattle.judge.specs.declared.errors.JudgeError.{JudgeError}
 use Rattle.judge.specs.declared.errors.JudgeError.TheVariants as judged
@@ -41,7 +41,7 @@ node_err x = Err x
 
 module _ (k : List ℕ) where
   unread : (e : JsonbError) → Said k (Err e) → IsRefusal k (keywords_error e)
-  unfolding Right
+  unfolding RightBy
   unread e (inl h) = inl (ap keywords_error (err_is e read.OutOfMemory h))
   unread e (inr h) = inr (λ d. (Err e, h, refl))
 
@@ -52,7 +52,7 @@ module _ (k : List ℕ) where
   -- a keyword object that is refused
   pub keyword_refused : (t : Tree) → IsRead k (Ok t) → (e : KeywordError) (x : JudgeError) → x ≡ keyword_error e
       → (◌≡◌ {A = Result Checks KeywordError} (Err e) (Err keyword.OutOfMemory)) ⊎ HasThisFault t e → IsRefusal k x
-  unfolding Right
+  unfolding RightBy
   keyword_refused t reads e x is (inl h) = inl (is ∙ ap keyword_error (err_is e keyword.OutOfMemory h))
   keyword_refused t reads e x is (inr fault) = inr (λ d. (Ok t, reads, (Some e, fault, ap err is)))
 
@@ -60,7 +60,7 @@ module _ (k : List ℕ) where
 
 module _ (c : Checks) (d : List ℕ) where
   unread_document : (e : JsonbError) → Said d (Err e) → Answers c d (Err (document_error e))
-  unfolding Right
+  unfolding RightBy
   unread_document e (inl h) = inl (ap err (ap document_error (err_is e read.OutOfMemory h)))
   unread_document e (inr h) = inr (λ k t reads compiled. (Ok t, reads, (None, compiled.valid, (Err e, h, refl))))
 
@@ -71,7 +71,7 @@ module _ (c : Checks) (d : List ℕ) where
   -- a document that passes the checks or not
   pub verdict : (r : Result JsonbNode JsonbError) (n : JsonbNode) (b : Bool) → r ≡ Ok n → Said d r
       → (IsTrue b ↔ Passes c (node_tree n)) → Answers c d (Ok b)
-  unfolding Right
+  unfolding RightBy
   verdict r n b is h told =
       let it : IsRead d (Ok (node_tree n)) =
       sure n read.OutOfMemory (IsRead d (Ok (node_tree n))) (subst (λ (x : Result JsonbNode JsonbError). Said d x) is h) in

@@ -1,12 +1,13 @@
 -- What the code says with which the program ends. This project's own.
 use Rattle.std.specs.Prelude.{◌≡◌, ◌↔◌, ℕ, List}
 use Rattle.std.specs.declared.option.Option.{Option}
-use Rattle.judge.specs.Answers.{LineAnswer}
+use Rattle.judge.specs.Answers.{LineAnswer, LineAnswerBy}
 use Rattle.judge.specs.Codes.{CodeAnswer}
 use Rattle.judge.specs.Made.{Made}
 use Rattle.judge.specs.Ran.{Ran}
 use Rattle.judge.specs.Status.{code_of}
-use Rattle.judge.specs.Words.{AreGood, IsCheck, IsEncode, IsMake}
+use Rattle.judge.specs.Words.{AreGood, IsCheck, IsCheck4, IsEncode, IsMake}
+use Rattle.judge.specs.declared.draft.Draft.TheVariants as drafts
 use Rattle.judge.specs.declared.status.Status.{Status}
 use Rattle.judge.specs.declared.status.Status.TheVariants.{BadWords, ReadFault, WriteFault}
 
@@ -19,6 +20,7 @@ pub record Ends (words : List (List ℕ)) (left_before left_now written_before w
   pub of_status : code ≡ code_of status
   pub bad_words : (status ≡ BadWords) ↔ (¬ AreGood words)
   pub check : IsCheck words → Ran LineAnswer left_before left_now written_before written_now status
+  pub check4 : IsCheck4 words → Ran (LineAnswerBy drafts.Draft4) left_before left_now written_before written_now status
   pub encode : IsEncode words → Ran CodeAnswer left_before left_now written_before written_now status
   pub make : (count : ℕ) → IsMake words count → Unread × Made count written_before written_now status
   pub untouched : status ≡ BadWords → Untouched

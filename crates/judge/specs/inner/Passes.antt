@@ -20,19 +20,21 @@ use Rattle.std.specs.List.{AllByRecursion}
 use Rattle.jsonschema_regex.specs.Analyses.{kept_of}
 use Rattle.jsonschema_regex.specs.declared.literal_pattern.LiteralPattern.{LiteralPattern}
 use Rattle.pattern_model.specs.Literals.{Hits}
-use Rattle.judge.specs.Names.{keyword_of}
+use Rattle.judge.specs.Draft4.{IsOfWrittenType}
+use Rattle.judge.specs.Names.{keyword_by}
 use Rattle.judge.specs.Patterns.{IsPattern}
-use Rattle.judge.specs.Validity.{AreTypeNames, HasForm, IsFair, IsNoPattern, KeepsDeep, NeedsEngine, Suits, TakesMemory, AsksUnique}
-use Rattle.judge.specs.Verdict.{IsAmong, IsNamed, IsOneOf, Reaches, IsUpTo, count_of, Holds, HoldsAt}
+use Rattle.judge.specs.Validity.{AreTypeNames, AsksUniqueBy, HasForm, IsFairBy, IsNoPattern, KeepsDeep, NeedsEngine, Suits, TakesMemory}
+use Rattle.judge.specs.Verdict.{IsAmong, IsNamed, IsOneOf, Reaches, IsUpTo, count_of, Holds, HoldsAtBy}
 use Rattle.judge.specs.declared.checks.Checks.{Checks}
 use Rattle.judge.specs.declared.bounds.Bounds.{Bounds}
+use Rattle.judge.specs.declared.draft.Reading.{Reading}
 use Rattle.judge.specs.declared.limits.Limit.{Limit}
 use Rattle.judge.specs.declared.limits.Limit.TheVariants.{Small, Large}
 use Rattle.judge.specs.declared.limits.Limits.{Limits}
 use Rattle.judge.specs.declared.errors.KeywordError.{KeywordError}
 use Rattle.judge.specs.declared.errors.KeywordError.TheVariants.{NotAnObject, UnknownKeyword, BadKeyword, BadPattern, PatternNotLiteral, TooDeep, OutOfMemory}
 use Rattle.judge.specs.declared.keyword.Keyword.{Keyword}
-use Rattle.judge.specs.declared.keyword.Keyword.TheVariants.{«Type», Enum, Const, Bound, Least, Greatest, Pattern, Required, UniqueItems, Silent}
+use Rattle.judge.specs.declared.keyword.Keyword.TheVariants.{«Type», Enum, Const, Bound, Least, Greatest, Pattern, Required, UniqueItems, Silent, WrittenType}
 use Rattle.judge.specs.declared.keyword.Measure.{Measure}
 use Rattle.judge.specs.declared.keyword.Measure.TheVariants.{CodePoints, Elements, Members}
 
@@ -43,6 +45,10 @@ IsSetOf v set = (t : JsonType) → IsTrue (holds set t) ↔ IsNamed t v
 -- the set holds just the types that the list v names
 abbrev pub IsSetOfList : Tree → JsonTypeSet → Type 0
 IsSetOfList v set = IsSomeAnd (as_array v) AreTypeNames × ((t : JsonType) → IsTrue (holds set t) ↔ IsAmong (name_of t) (elements_of v))
+
+-- the set holds a type that the tree is of by how it is written
+abbrev pub AllowsWritten : JsonTypeSet → Tree → Type 0
+AllowsWritten set d = (t : JsonType) × IsTrue (holds set t) × IsOfWrittenType d t
 
 -- each name is a key of the pairs
 abbrev pub HasKeys : {Z : Type 0} → List (String Z) → List (List ℕ × Tree) → Type 0
@@ -141,6 +147,7 @@ NeedsNoMemory c = c.unique ≡ false
 -- the document passes every check
 pub record Passes (c : Checks) (d : Tree) : Type 0 where
   pub types : IfSome c.types (λ set. AllowsType set d)
+  pub written_types : IfSome c.written_types (λ set. AllowsWritten set d)
   pub listed : IfSome c.listed (λ values. IsListed d values.items)
   pub constant : IfSome c.constant (λ value. Same d (tree value))
   pub bounds : IfSome (as_number d) (KeepsAll c.bounds)
@@ -163,6 +170,7 @@ IsFree Pattern c = c.pattern ≡ None
 IsFree UniqueItems c = c.unique ≡ false
 IsFree Required c = c.required ≡ None
 IsFree (Silent form) c = ⊤
+IsFree WrittenType c = c.written_types ≡ None
 
 -- new checks what old checks, and what the keyword w with the value v asks
 pub record Adds (old : Checks) (w : Keyword) (v : Tree) (new : Checks) : Type 0 where
@@ -186,8 +194,8 @@ AddFault m w v (TooDeep n) = (n ≡ m) × HasForm w v × KeepsDeep w v
 AddFault m w v OutOfMemory = TakesMemory w v
 
 -- the member p was taken in
-pub record Took (old : Checks) (p : List ℕ × Tree) (new : Checks) : Type 0 where
-  pub fair : IsFair p
-  pub passes : (d : Tree) → Passes new d ↔ (Passes old d × HoldsAt d p)
-  pub frees : (u : Keyword) → (keyword_of p.0 ≡ Some u → ⊥) → IsFree u old → IsFree u new
-  pub memory : (AsksUnique p → ⊥) → NeedsNoMemory old → NeedsNoMemory new
+pub record Took (r : Reading) (old : Checks) (p : List ℕ × Tree) (new : Checks) : Type 0 where
+  pub fair : IsFairBy r p
+  pub passes : (d : Tree) → Passes new d ↔ (Passes old d × HoldsAtBy r d p)
+  pub frees : (u : Keyword) → (keyword_by r p.0 ≡ Some u → ⊥) → IsFree u old → IsFree u new
+  pub memory : (AsksUniqueBy r p → ⊥) → NeedsNoMemory old → NeedsNoMemory new

@@ -1,13 +1,14 @@
 -- What the code reads of the words of a command line. This project's own.
 use Rattle.std.specs.Prelude.{◌≡◌, ◌≢◌, ◌≤◌, ℕ, List, slice_index, decimal, MatchOption}
 use Rattle.std.specs.declared.option.Option.{Option}
-use Rattle.judge.specs.Words.{AreGood, IsCheck, IsEncode, IsMake}
+use Rattle.judge.specs.Words.{AreGood, IsCheck, IsCheck4, IsEncode, IsMake}
 use Rattle.judge.specs.declared.words.Request.{Request}
-use Rattle.judge.specs.declared.words.Request.TheVariants.{Check, Encode, Make}
+use Rattle.judge.specs.declared.words.Request.TheVariants.{Check, Check4, Encode, Make}
 
 -- the words ask for the command
 abbrev pub Asks : List (List ℕ) → Request → Type 0
 Asks words Check = IsCheck words
+Asks words Check4 = IsCheck4 words
 Asks words Encode = IsEncode words
 Asks words (Make count) = IsMake words count
 

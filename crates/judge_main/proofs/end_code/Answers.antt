@@ -6,6 +6,7 @@ returns-in-Ok-clause-ends g c =
     let ran = c.run.ensures in
     let bad_words = rw c.deref.ensures.value at ran.bad_words in
     let check = rw c.deref.ensures.value at ran.check in
+    let check4 = rw c.deref.ensures.value at ran.check4 in
     let encode = rw c.deref.ensures.value at ran.encode in
     let make = rw c.deref.ensures.value at ran.make in
     rw c.in-Ok.is (record {
@@ -13,6 +14,7 @@ returns-in-Ok-clause-ends g c =
       of_status = c.from.ensures ∙ c.code.ensures;
       bad_words = bad_words;
       check = check;
+      check4 = check4;
       encode = encode;
       make = make;
       untouched = ran.untouched;

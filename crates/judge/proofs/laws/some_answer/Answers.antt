@@ -4,4 +4,5 @@ use Rattle.judge.proofs.laws.some_answer.Goals as goal
 
 pub returns : goal.returns
 returns c =
-    some_answer c.args.keywords.now c.args.document.now (λ i. omega (arith, c.type_inv.keywords i)) (λ i. omega (arith, c.type_inv.document i))
+    λ draft. some_answer draft c.args.keywords.now c.args.document.now (λ i. omega (arith, c.type_inv.keywords i)) (λ i. omega
+    (arith, c.type_inv.document i))

@@ -10,6 +10,13 @@ returns-in-Some-Check-clause-complete g c = λ input left short below words no_r
     (λ is. no_read (c.answer_lines.ensures.read_fault is))
     (λ is. no_write (c.answer_lines.ensures.write_fault is))
 
+pub returns-in-Some-Check4-clause-complete : goal.returns-in-Some-Check4-clause-complete
+returns-in-Some-Check4-clause-complete g c = λ input left short below words no_read no_write.
+    let ended = c.answer_lines-in-Some-Check4 in
+    completes_at _ input _ _ _ ended.result left ended.ensures.ran short below
+    (λ is. no_read (ended.ensures.read_fault is))
+    (λ is. no_write (ended.ensures.write_fault is))
+
 pub returns-in-Some-Encode-clause-complete : goal.returns-in-Some-Encode-clause-complete
 returns-in-Some-Encode-clause-complete g c = λ input left short below words no_read no_write.
     let ended = c.answer_lines-in-Some-Encode in

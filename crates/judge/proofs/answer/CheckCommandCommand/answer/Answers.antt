@@ -12,5 +12,6 @@ returns-in_default c = record {
 pub returns : goal.returns
 returns c =
     let pair = rw c.in-Some.is at c.in_ok-keywords.ensures in
-    let right = rw (c.deref.ensures.value, c.deref-2.ensures.value) at c.judge.ensures.right in
-    printed_answers _ _ _ c.judge.result c.printed.result c.ok_or.result pair right c.printed.ensures c.ok_or.ensures.ok_part
+    let right = rw (c.deref.ensures.value, c.deref-2.ensures.value) at c.judge_draft.ensures.right in
+    printed_answers c.args.self.now.draft _ _ _ c.judge_draft.result c.printed.result c.ok_or.result pair right
+    c.printed.ensures c.ok_or.ensures.ok_part

@@ -1,8 +1,9 @@
 use Rattle.std.proofs.Common.{◌≡◌, length, drop}
 use Rattle.json_model.specs.Parts.{pairs_of}
 use Rattle.json_traits.specs.Gives.{Gives}
+use Rattle.judge.specs.Names.{reading_of}
 use Rattle.judge.proofs.Compiling.{Walked}
-use Rattle.judge.proofs.checks.Checks.compile.Given as goal
+use Rattle.judge.proofs.checks.Checks.compile_draft.Given as goal
 
 abbrev pub invariant-loop-name : goal.invariant-loop-name
 invariant-loop-name g l =
@@ -14,5 +15,6 @@ invariant-loop-name g l =
       left : Gives (goal.iterator-loop-name g).next_gives (λ p. (p.0.now, g.N.HasTree.tree p.1)) l.name-iterator (drop k (pairs_of t));
       place : l.member ≡ k;
       counted : l.count ≡ length (pairs_of t);
-      walked : Walked t l.checks k;
+      reads : l.reading ≡ reading_of l.fn.draft t;
+      walked : Walked l.fn.draft t l.checks k;
     }

@@ -9,7 +9,8 @@ returns-in-Draft2020 c =
     let no = c.in_default in
     c.of_2020.ensures ∙ rw c.in-Draft2020.is (sym (past_shared
     c.args.name.now names_2020 no.not-enum no.not-minLength no.not-maxLength no.not-minItems
-    no.not-maxItems no.not-uniqueItems no.not-minProperties no.not-maxProperties no.not-pattern no.not-required no.not-title no.not-description no.not-text))
+    no.not-maxItems no.not-uniqueItems no.not-minProperties no.not-maxProperties no.not-pattern no.not-required no.not-title
+    no.not-description no.not-text))
 
 pub returns-in-Draft4 : goal.returns-in-Draft4
 returns-in-Draft4 c =

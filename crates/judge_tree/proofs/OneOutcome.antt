@@ -6,9 +6,13 @@ use Rattle.judge.proofs.Answering.{err_is}
 use Rattle.judge.proofs.OneAnswer.{one_on_trees}
 use Rattle.judge.specs.Names.{keyword_of}
 use Rattle.judge.specs.Validity as flat
+use Rattle.judge.specs.declared.draft.Draft.TheVariants as drafts
+use Rattle.judge.specs.declared.draft.Reading.TheVariants as reading
 use Rattle.judge.specs.declared.errors.KeywordError.{KeywordError}
+use Rattle.judge.specs.declared.keyword.Keyword.{Keyword}
 use Rattle.judge.specs.declared.errors.KeywordError.TheVariants as keyword
 use Rattle.judge_tree.specs.Applicators.{Lines, applicator_of, line_of}
+use Rattle.judge_tree.specs.FlatFaults.{IsBad, IsBadPattern, IsNotLiteral, IsUnknown}
 use Rattle.judge_tree.specs.Walks.{Outcome, went, stopped, Continues, FlatFault, Walks, WalksEach, WalksElements, WalksFlat, WalksList, WalksProperties, WalksValues}
 use Rattle.judge_tree.specs.inner.Built.{flat_error}
 use Rattle.judge_tree.specs.declared.applicator.Applicator.{Applicator}
@@ -34,13 +38,13 @@ kind OutOfMemory = keyword.OutOfMemory
 first : (p : List ℕ × Tree) (P : List ℕ × Tree → Type 0) → P p → flat.IsFirst (single p) 0 P
 first p P h = record { object = refl; before = tt; here = h }
 
-has_kind : (n m : ℕ) (p : List ℕ × Tree) (e : SchemaError) → FlatFault n m p e → flat.HasFault (single p) (Some (kind e))
+has_kind : (n m : ℕ) (p : List ℕ × Tree) (e : SchemaError) → FlatFault n m p e → flat.HasFaultBy drafts.Draft2020 (single p) (Some (kind e))
 has_kind n m p SchemaTooDeep h = absurd h
 has_kind n m p (NotASchema i) h = absurd h
-has_kind n m p (UnknownKeyword i j) h = first p flat.IsUnknown h.2
-has_kind n m p (BadKeyword i j) h = first p flat.IsBad h.2
-has_kind n m p (BadPattern i j) h = first p flat.IsBadPattern h.2
-has_kind n m p (PatternNotLiteral i j) h = first p flat.IsNotLiteral h.2
+has_kind n m p (UnknownKeyword i j) h = first p IsUnknown h.2
+has_kind n m p (BadKeyword i j) h = first p IsBad h.2
+has_kind n m p (BadPattern i j) h = first p IsBadPattern h.2
+has_kind n m p (PatternNotLiteral i j) h = first p IsNotLiteral h.2
 has_kind n m p OutOfMemory h = absurd h
 
 by_kind : (n m : ℕ) (p : List ℕ × Tree) (e : SchemaError) → FlatFault n m p e → e ≡ flat_error n m (kind e)
@@ -60,15 +64,19 @@ none_there : {A : Type 0} (o : Option A) (P : A → Type 0) → o ≡ None → I
 none_there None P e h = h
 none_there (Some a) P e h = cc
 
+-- the keyword takes the member's value
+abbrev takes : List ℕ × Tree → Keyword → Type 0
+takes p w = flat.Suits w p.1 × flat.IsNarrowBy reading.Draft2020 w p.1
+
 -- a member with no fault has none
 fair_alone : (n m : ℕ) (p : List ℕ × Tree) (e : SchemaError) → flat.IsFair p → FlatFault n m p e → ⊥
 fair_alone n m p SchemaTooDeep f h = h
 fair_alone n m p (NotASchema i) f h = h
-fair_alone n m p (UnknownKeyword i j) f h = none_there (keyword_of p.0) (λ w. flat.Suits w p.1) h.2 f
-fair_alone n m p (BadKeyword i j) f h = both (keyword_of p.0) (λ w. flat.Suits w p.1) (λ w. (flat.HasForm w p.1 → ⊥)) (λ w s b. b s.form) f h.2
-fair_alone n m p (BadPattern i j) f h = both (keyword_of p.0) (λ w. flat.Suits w p.1) (λ w. flat.IsNoPattern w p.1) (λ w s b. s.pattern b) f h.2
-fair_alone n m p (PatternNotLiteral i j) f h =
-    both (keyword_of p.0) (λ w. flat.Suits w p.1) (λ w. flat.NeedsEngine w p.1) (λ w s b. s.literal b) f h.2
+fair_alone n m p (UnknownKeyword i j) f h = none_there (keyword_of p.0) (takes p) h.2 f
+fair_alone n m p (BadKeyword i j) f h =
+    both (keyword_of p.0) (takes p) (λ w. (flat.HasFormBy reading.Draft2020 w p.1 → ⊥)) (λ w s b. b (s.0.form, s.1)) f h.2
+fair_alone n m p (BadPattern i j) f h = both (keyword_of p.0) (takes p) (λ w. flat.IsNoPattern w p.1) (λ w s b. s.0.pattern b) f h.2
+fair_alone n m p (PatternNotLiteral i j) f h = both (keyword_of p.0) (takes p) (λ w. flat.NeedsEngine w p.1) (λ w s b. s.0.literal b) f h.2
 fair_alone n m p OutOfMemory f h = h
 
 flat_once : (n m i : ℕ) (p : List ℕ × Tree) (w v : Outcome) → WalksFlat n m i p w → WalksFlat n m i p v → w ≡ v

@@ -1,4 +1,5 @@
 pub mod Applicators
+pub mod FlatFaults
 pub mod Verdict
 pub mod Walks
 pub mod Unique

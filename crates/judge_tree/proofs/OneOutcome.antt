@@ -1,13 +1,12 @@
 -- A walk over a tree ends in one way alone: so a tree has at most one fault as a schema.
 use Rattle.std.proofs.Common.{◌≡◌, ◌+◌, ℕ, List, Option, Some, None, refl, sym, ap, subst, ◌∙◌}
-use Rattle.std.specs.Prelude.{Err, IsSomeAnd}
+use Rattle.std.specs.Prelude.{Err, ⊤, IsSomeAnd}
 use Rattle.json_model.specs.Tree.{Tree, null, boolean, number, string, scalar, array, object, Elements, no_elements, element, Members, no_members, member}
 use Rattle.judge.proofs.Answering.{err_is}
 use Rattle.judge.proofs.OneAnswer.{one_on_trees}
 use Rattle.judge.specs.Names.{keyword_of}
 use Rattle.judge.specs.Validity as flat
 use Rattle.judge.specs.declared.draft.Draft.TheVariants as drafts
-use Rattle.judge.specs.declared.draft.Reading.TheVariants as reading
 use Rattle.judge.specs.declared.errors.KeywordError.{KeywordError}
 use Rattle.judge.specs.declared.keyword.Keyword.{Keyword}
 use Rattle.judge.specs.declared.errors.KeywordError.TheVariants as keyword
@@ -66,7 +65,7 @@ none_there (Some a) P e h = cc
 
 -- the keyword takes the member's value
 abbrev takes : List ℕ × Tree → Keyword → Type 0
-takes p w = flat.Suits w p.1 × flat.IsNarrowBy reading.Draft2020 w p.1
+takes p w = flat.Suits w p.1 × ⊤
 
 -- a member with no fault has none
 fair_alone : (n m : ℕ) (p : List ℕ × Tree) (e : SchemaError) → flat.IsFair p → FlatFault n m p e → ⊥
@@ -74,7 +73,7 @@ fair_alone n m p SchemaTooDeep f h = h
 fair_alone n m p (NotASchema i) f h = h
 fair_alone n m p (UnknownKeyword i j) f h = none_there (keyword_of p.0) (takes p) h.2 f
 fair_alone n m p (BadKeyword i j) f h =
-    both (keyword_of p.0) (takes p) (λ w. (flat.HasFormBy reading.Draft2020 w p.1 → ⊥)) (λ w s b. b (s.0.form, s.1)) f h.2
+    both (keyword_of p.0) (takes p) (λ w. (flat.HasForm w p.1 × ⊤ → ⊥)) (λ w s b. b (s.0.form, s.1)) f h.2
 fair_alone n m p (BadPattern i j) f h = both (keyword_of p.0) (takes p) (λ w. flat.IsNoPattern w p.1) (λ w s b. s.0.pattern b) f h.2
 fair_alone n m p (PatternNotLiteral i j) f h = both (keyword_of p.0) (takes p) (λ w. flat.NeedsEngine w p.1) (λ w s b. s.0.literal b) f h.2
 fair_alone n m p OutOfMemory f h = h

@@ -8,7 +8,6 @@ use Rattle.judge.specs.Names.{keyword_of}
 use Rattle.judge.specs.Validity as flat
 use Rattle.judge.specs.declared.draft.Draft.TheVariants as drafts
 use Rattle.judge.specs.declared.errors.KeywordError.{KeywordError}
-use Rattle.judge.specs.declared.keyword.Keyword.{Keyword}
 use Rattle.judge.specs.declared.errors.KeywordError.TheVariants as keyword
 use Rattle.judge_tree.specs.Applicators.{Lines, applicator_of, line_of}
 use Rattle.judge_tree.specs.FlatFaults.{IsBad, IsBadPattern, IsNotLiteral, IsUnknown}
@@ -63,19 +62,15 @@ none_there : {A : Type 0} (o : Option A) (P : A → Type 0) → o ≡ None → I
 none_there None P e h = h
 none_there (Some a) P e h = cc
 
--- the keyword takes the member's value
-abbrev takes : List ℕ × Tree → Keyword → Type 0
-takes p w = flat.Suits w p.1 × ⊤
-
 -- a member with no fault has none
 fair_alone : (n m : ℕ) (p : List ℕ × Tree) (e : SchemaError) → flat.IsFair p → FlatFault n m p e → ⊥
 fair_alone n m p SchemaTooDeep f h = h
 fair_alone n m p (NotASchema i) f h = h
-fair_alone n m p (UnknownKeyword i j) f h = none_there (keyword_of p.0) (takes p) h.2 f
+fair_alone n m p (UnknownKeyword i j) f h = none_there (keyword_of p.0) (λ w. flat.Suits w p.1 × ⊤) h.2 f
 fair_alone n m p (BadKeyword i j) f h =
-    both (keyword_of p.0) (takes p) (λ w. (flat.HasForm w p.1 × ⊤ → ⊥)) (λ w s b. b (s.0.form, s.1)) f h.2
-fair_alone n m p (BadPattern i j) f h = both (keyword_of p.0) (takes p) (λ w. flat.IsNoPattern w p.1) (λ w s b. s.0.pattern b) f h.2
-fair_alone n m p (PatternNotLiteral i j) f h = both (keyword_of p.0) (takes p) (λ w. flat.NeedsEngine w p.1) (λ w s b. s.0.literal b) f h.2
+    both (keyword_of p.0) (λ w. flat.Suits w p.1 × ⊤) (λ w. (flat.HasForm w p.1 × ⊤ → ⊥)) (λ w s b. b (s.0.form, s.1)) f h.2
+fair_alone n m p (BadPattern i j) f h = both (keyword_of p.0) (λ w. flat.Suits w p.1 × ⊤) (λ w. flat.IsNoPattern w p.1) (λ w s b. s.0.pattern b) f h.2
+fair_alone n m p (PatternNotLiteral i j) f h = both (keyword_of p.0) (λ w. flat.Suits w p.1 × ⊤) (λ w. flat.NeedsEngine w p.1) (λ w s b. s.0.literal b) f h.2
 fair_alone n m p OutOfMemory f h = h
 
 flat_once : (n m i : ℕ) (p : List ℕ × Tree) (w v : Outcome) → WalksFlat n m i p w → WalksFlat n m i p v → w ≡ v

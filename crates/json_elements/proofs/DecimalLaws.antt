@@ -10,7 +10,7 @@ use Rattle.json_exact.specs.DecimalGroups.{IsScaled}
 use Rattle.json_exact.specs.inner.DecimalInverseLaws.{ten_pos}
 use Rattle.json_exact.specs.Exact.{IsWorth, parts}
 use Rattle.json_exact.proofs.SignLaws.{abs_times, sign_times}
-use Rattle.json_exact.proofs.WorthLaws.{parts_pos}
+use Rattle.json_exact.proofs.WorthLaws.{parts_pos, sizes}
 use Rattle.json_elements.proofs.HashLaws.{fed_append}
 use Rattle.json_elements.proofs.ZeroLaws.{EndsIn, ends_in, raised, zeros_are, mantissa_is}
 use Rattle.json_elements.specs.Number.{powers_in, zeros, mantissa, exponent, sign_byte, exponent_bytes, mantissa_bytes, decimal_bytes, fed, fed_one}
@@ -102,9 +102,6 @@ none_is (negsuc n) e = absurd (omega arith)
 levels : (e : ℤ) → (up l : ℕ) × (e +ℤ pos up ≡ pos l)
 levels (pos k) = (0, k, omega (arith, ints))
 levels (negsuc k) = (suc k, 0, omega (arith, ints))
-
-sizes : (d : ℤ) (w : Written) → IsWorth d w → nat_abs d * 10 ^ w.places ≡ nat_abs w.digits * parts
-sizes d w f = sym (abs_times d (10 ^ w.places)) ∙ ap nat_abs f ∙ abs_times w.digits parts
 
 turned : (x y p u v w m : ℕ) → y * u ≡ m * p * v → y * w ≡ x * p → x * u * p ≡ m * (v * w) * p
 turned x y p u v w m e f =

@@ -23,7 +23,7 @@ use Rattle.json_exact.proofs.GroupLaws.{whole_groups}
 use Rattle.json_exact.proofs.WholeLaws.{sized, AreZeros, none_counts, drop_length}
 
 -- a common factor does not matter to a quotient
-same_quotient : (a b c : ℕ) → 0 < c → a * c / (b * c) ≡ a / b
+pub same_quotient : (a b c : ℕ) → 0 < c → a * c / (b * c) ≡ a / b
 same_quotient a b c some =
     ap (λ (x : ℕ). a * c / x) (let e : b * c ≡ c * b = omega arith in e) ∙ sym (div-div-eq-div-mul (a * c) c b)
     ∙ ap (λ (x : ℕ). x / b) (mul-div_cancel a some)

@@ -55,7 +55,8 @@ whole_as_written d w f = (
   ),
 )
 
-sizes : (d : ℤ) (w : Written) → IsWorth d w → nat_abs d * 10 ^ w.places ≡ nat_abs w.digits * parts
+-- a value and what it is written as are of one size, once both are counted in the same parts
+pub sizes : (d : ℤ) (w : Written) → IsWorth d w → nat_abs d * 10 ^ w.places ≡ nat_abs w.digits * parts
 sizes d w f = sym (abs_times d (10 ^ w.places)) ∙ ap nat_abs f ∙ abs_times w.digits parts
 
 -- a value is narrow exactly where what it is written as is

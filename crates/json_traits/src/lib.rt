@@ -6,7 +6,7 @@
 //! writes `to_number` alone: its other calls answer from that. A [`NodeIdentity`] tells a node from those at other places under
 //! its root, where the representation tells places apart. [`Json`] is a representation: its nodes, its prepared keys, and the buffers
 //! of its string nodes. A function over nodes that calls itself takes a [`NodeFamily`], and [`FamilyOf`] is that of each kind of node.
-//! [`equal_nodes`] is JSON equality of two nodes of one kind. [`laws`] says that keys rise at each level of every node's tree.
+//! [`equal_nodes`] is JSON equality of two nodes of one kind, and [`nests_within`] tells how deep a node nests. [`laws`] says that keys rise at each level of every node's tree.
 //!
 //! `Node::equals_value` is JSON equality with a value in memory, and `Node::to_value` a value of the node's tree, as a [`ValueCow`]: it is
 //! borrowed where the node is that of a value, and built of any other node. `TooDeep`, a [`ValueError`], is answered exactly where the
@@ -58,6 +58,7 @@ pub use identity::NodeIdentity;
 pub use json::Json;
 pub use json_number::JsonNumber;
 pub use lazy_instance::LazyInstance;
+pub use nesting::nests_within;
 pub use node::Node;
 pub use node_equality::{equal_arrays, equal_nodes, equal_objects};
 pub use node_family::{FamilyOf, NodeFamily};

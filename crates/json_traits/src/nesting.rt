@@ -8,7 +8,7 @@ use crate::node_family::NodeFamily;
 
 /// Whether a value nests at most `limit` containers, itself counted. It goes no deeper than the limit.
 #[cycle(nesting)]
-pub(crate) fn nests_within<F: NodeFamily>(node: &F::Node, limit: usize) -> bool
+pub fn nests_within<F: NodeFamily>(node: &F::Node, limit: usize) -> bool
     ensures { IsTrue result ↔ (nest (F.Node.tree node.now) ≤ limit) }
 {
     if let Some(array) = F::as_array(node) {

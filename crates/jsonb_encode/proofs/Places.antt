@@ -11,7 +11,7 @@ use Rattle.json_exact.specs.DecimalGroups.{group, IsGreatestPlace, IsLeastPlace}
 use Rattle.json_exact.specs.Digits.{spread}
 use Rattle.json_exact.specs.Exact.{IsWorth}
 use Rattle.json_model.proofs.DecimalLaws.{fours}
-use Rattle.json_exact.proofs.GroupPlaceLaws.{group_lifted, group_under}
+use Rattle.json_exact.proofs.GroupPlaceLaws.{group_lifted, group_under, same_quotient}
 use Rattle.json_exact.proofs.WorthLaws.{worth_in_parts}
 use Rattle.jsonb_encode.specs.Number.{fraction_groups, magnitude, groups}
 use Rattle.jsonb_encode.specs.inner.Writing.{groups_down}
@@ -38,12 +38,6 @@ scaled d w worth le =
   where
     products : (x y z : ℕ) → x * y * z ≡ x * (y * z)
     products x y z = omega arith
-
-same_quotient : (a b c : ℕ) → 0 < c → a * c / (b * c) ≡ a / b
-same_quotient a b c some =
-    ap (λ (x : ℕ). a * c / x) (let e : b * c ≡ c * b = omega arith in e)
-    ∙ sym (div-div-eq-div-mul (a * c) c b)
-    ∙ ap (λ (x : ℕ). x / b) (mul-div_cancel a some)
 
 -- the group at a place is a digit
 pub digit : (p : ℤ) (i n N F : ℕ) → Scaled n N F → p +ℤ pos F ≡ pos i → N / 10000 ^ i % 10000 ≡ group p n

@@ -143,6 +143,20 @@ IsNotLiteralBy r p = IsSomeAnd (keyword_by r p.0) (λ w. NeedsEngine w p.1)
 abbrev pub IsTooDeepBy : Reading → List ℕ × Tree → Type 0
 IsTooDeepBy r p = IsSomeAnd (keyword_by r p.0) (λ w. HasFormBy r w p.1 × KeepsDeep w p.1)
 
+-- ---- the same faults by 2020-12
+
+abbrev pub IsUnknown : List ℕ × Tree → Type 0
+IsUnknown p = IsUnknownBy reading.Draft2020 p
+
+abbrev pub IsBad : List ℕ × Tree → Type 0
+IsBad p = IsBadBy reading.Draft2020 p
+
+abbrev pub IsBadPattern : List ℕ × Tree → Type 0
+IsBadPattern p = IsBadPatternBy reading.Draft2020 p
+
+abbrev pub IsNotLiteral : List ℕ × Tree → Type 0
+IsNotLiteral p = IsNotLiteralBy reading.Draft2020 p
+
 -- Reading the value takes memory, fair or not: for the names or the values that a list holds, or for the value itself.
 abbrev pub TakesMemory : Keyword → Tree → Type 0
 TakesMemory «Type» v = ⊥

@@ -10,7 +10,7 @@ use Rattle.judge.specs.declared.draft.Draft.TheVariants as drafts
 use Rattle.judge.specs.declared.errors.KeywordError.{KeywordError}
 use Rattle.judge.specs.declared.errors.KeywordError.TheVariants as keyword
 use Rattle.judge_tree.specs.Applicators.{Lines, applicator_of, line_of}
-use Rattle.judge_tree.specs.FlatFaults.{IsBad, IsBadPattern, IsNotLiteral, IsUnknown}
+use Rattle.judge.specs.Validity.{IsBad, IsBadPattern, IsNotLiteral, IsUnknown}
 use Rattle.judge_tree.specs.Walks.{Outcome, went, stopped, Continues, FlatFault, Walks, WalksEach, WalksElements, WalksFlat, WalksList, WalksProperties, WalksValues}
 use Rattle.judge_tree.specs.inner.Built.{flat_error}
 use Rattle.judge_tree.specs.declared.applicator.Applicator.{Applicator}

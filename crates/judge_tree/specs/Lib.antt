@@ -1,5 +1,4 @@
 pub mod Applicators
-pub mod FlatFaults
 pub mod Verdict
 pub mod Walks
 pub mod Unique

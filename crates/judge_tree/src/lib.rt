@@ -24,7 +24,6 @@ mod errors;
 mod formula;
 mod judged_family;
 pub mod laws;
-mod nesting;
 mod schema;
 mod tree_error;
 mod verdict;

@@ -7,9 +7,8 @@ use crate::checking::holds;
 use crate::compiling::compile_schema;
 use crate::errors::SchemaError;
 use crate::formula::Formula;
-use crate::nesting::nests_within;
 use json_exact::OutOfMemory;
-use json_traits::{FamilyOf, Node};
+use json_traits::{FamilyOf, Node, nests_within};
 use std::alloc::Global;
 
 /// A schema that is compiled once and checks many documents, whatever holds them.

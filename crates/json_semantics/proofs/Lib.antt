@@ -2,4 +2,4 @@ pub mod ValueLaws
 pub mod TextLaws
 pub mod EquivalenceLaws
 pub mod IdentityLaws
-mod ConformanceLaws
+pub mod ConformanceLaws

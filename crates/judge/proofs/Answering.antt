@@ -26,7 +26,7 @@ abbrev Answers : Draft → List ℕ → List ℕ → Answer → Type 0
 Answers draft k d r = (r ≡ Err judged.OutOfMemory) ⊎ RightBy draft k d r
 
 -- what a reader says: want of memory, or what is read
-abbrev Said : {X : Type 0} → List ℕ → Result X JsonbError → Result Tree JsonbError → Type 0
+abbrev pub Said : {X : Type 0} → List ℕ → Result X JsonbError → Result Tree JsonbError → Type 0
 Said b r s = (r ≡ Err read.OutOfMemory) ⊎ IsRead b s
 
 -- Two errors are equal where their results are.

@@ -12,6 +12,7 @@ use Rattle.jsonb.specs.declared.error.JsonbError.{JsonbError}
 use Rattle.jsonb_layout.proofs.Containers.{one_tree}
 use Rattle.jsonb_layout.specs.Stands.{Stands}
 use Rattle.serde_json.specs.Data as serde
+use Rattle.json_semantics.proofs.ConformanceLaws.{tree_number}
 use Rattle.judge.specs.Right.{Answer, Right, RightBy, RightFrom, RightOf, RightWith, document_error, keyword_error, keywords_error}
 use Rattle.judge.specs.Verdict.{Verdict}
 use Rattle.judge.specs.declared.draft.Draft.TheVariants as drafts
@@ -20,9 +21,6 @@ use Rattle.judge.specs.declared.errors.JudgeError.TheVariants.{OutOfMemory}
 use Rattle.judge.specs.declared.errors.KeywordError.{KeywordError}
 
 -- ---- values and texts
-
-tree_number : (n : Written) → tree (V.Number n) ≡ scalar (number n)
-tree_number n = search (rules, the_lemmas)
 
 one_some : (t u : Tree) → ◌≡◌ {A = Option Tree} (Some t) (Some u) → t ≡ u
 one_some t u e = cc

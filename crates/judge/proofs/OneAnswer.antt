@@ -23,7 +23,8 @@ use Rattle.judge.proofs.SomeFault.{decided_deep, decided_form_by}
 abbrev Pair : Type 0
 Pair = List ℕ × Tree
 
-one_truth : (a b : Bool) (P : Type 0) → (IsTrue a ↔ P) → (IsTrue b ↔ P) → a ≡ b
+-- two answers that are true exactly where one thing holds are one
+pub one_truth : (a b : Bool) (P : Type 0) → (IsTrue a ↔ P) → (IsTrue b ↔ P) → a ≡ b
 one_truth true true P h k = refl
 one_truth true false P h k = sym (k.1 (h.0 refl))
 one_truth false true P h k = h.1 (k.0 refl)

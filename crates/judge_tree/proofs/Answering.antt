@@ -6,6 +6,7 @@ use Rattle.jsonb.specs.Root.{IsRead}
 use Rattle.jsonb.specs.declared.error.JsonbError.{JsonbError}
 use Rattle.jsonb.specs.declared.error.JsonbError.TheVariants as read
 use Rattle.judge.proofs.Answering.{err_is}
+use Rattle.judge.proofs.Answering.{Said}
 use Rattle.judge_tree.specs.Compiled.{IsCompiled, IsRefused, Passes}
 use Rattle.judge_tree.specs.Right.{Answer, Right, document_error, schema_error, slice_error}
 use Rattle.judge_tree.specs.declared.errors.SchemaError.{SchemaError}
@@ -16,10 +17,6 @@ use Rattle.judge_tree.specs.declared.tree_error.TreeError.TheVariants as judged
 -- want of memory, or right
 abbrev Answers : List ℕ → List ℕ → Answer → Type 0
 Answers s d r = (r ≡ Err judged.OutOfMemory) ⊎ Right s d r
-
--- what a reader says: want of memory, or what is read
-abbrev Said : {X : Type 0} → List ℕ → Result X JsonbError → Result Tree JsonbError → Type 0
-Said b r s = (r ≡ Err read.OutOfMemory) ⊎ IsRead b s
 
 abbrev err : TreeError → Answer
 err x = Err x

@@ -4,6 +4,7 @@ use Rattle.std.specs.Prelude.{Result, Ok, Err, ◌↔◌, IsTrue}
 use Rattle.json_model.specs.Tree.{Tree}
 use Rattle.jsonb.proofs.OneRead.{one_read}
 use Rattle.jsonb.specs.declared.error.JsonbError.{JsonbError}
+use Rattle.judge.proofs.OneAnswer.{one_truth}
 use Rattle.judge_tree.specs.Compiled.{HasFault}
 use Rattle.judge_tree.specs.Right.{Answer, Right, RightFrom, RightOf, RightWith}
 use Rattle.judge_tree.specs.Verdict.{IsValidUnder}
@@ -22,12 +23,6 @@ one_fault t (Some e) (Some f) (inl h) (inl k) = ap Some (h.0 ∙ sym k.0)
 one_fault t (Some e) (Some f) (inl h) (inr k) = absurd (h.1 k.0)
 one_fault t (Some e) (Some f) (inr h) (inl k) = absurd (k.1 h.0)
 one_fault t (Some e) (Some f) (inr h) (inr k) = let same : stopped e ≡ stopped f = walks_once t 0 (stopped e) (stopped f) h.1 k.1 in cc
-
-one_truth : (a b : Bool) (P : Type 0) → (IsTrue a ↔ P) → (IsTrue b ↔ P) → a ≡ b
-one_truth true true P h k = refl
-one_truth true false P h k = sym (k.1 (h.0 refl))
-one_truth false true P h k = h.1 (k.0 refl)
-one_truth false false P h k = refl
 
 right_of : (s : Tree) (d : Result Tree JsonbError) (r q : Answer) → RightOf s d r → RightOf s d q → r ≡ q
 right_of s (Err e) r q h k = h ∙ sym k

@@ -9,7 +9,7 @@ use Rattle.json_model.specs.Tree.{Tree}
 use Rattle.json_semantics.specs.Bounds.{Keeps}
 use Rattle.json_semantics.specs.declared.numeric_check.BoundOp.{BoundOp}
 use Rattle.json_semantics.specs.declared.numeric_check.CompiledBound.{CompiledBound}
-use Rattle.jsonschema_regex.specs.declared.literal_pattern.LiteralPattern.{LiteralPattern}
+use Rattle.literal_patterns.specs.declared.literal_pattern.LiteralPattern.{LiteralPattern}
 use Rattle.judge.proofs.NameLists.{if_both}
 use Rattle.judge.specs.inner.Passes.{Adds, AreListed, HasRoom, IsBoundOf, IsFree, IsLimitOf, IsPatternOf, IsWithin, KeepsAll, Meets, NeedsNoMemory, Passes, bound_at, limits_at}
 use Rattle.judge.specs.Validity.{IsCount, Suits}

@@ -20,7 +20,7 @@ use Rattle.json_model.specs.Decimal.{Decimal, IsBelow, IsWhole, signed}
 use Rattle.json_traits.specs.Weights.{same}
 use Rattle.json_traits.specs.declared.types.json_type.JsonType.{JsonType}
 use Rattle.json_traits.specs.declared.types.json_type.JsonType.TheVariants.{Null, Boolean, Integer, Number, String, Array, Object}
-use Rattle.jsonschema_regex.proofs.DecidedPatterns.{Decided}
+use Rattle.literal_patterns.proofs.DecidedPatterns.{Decided}
 use Rattle.judge.proofs.TypeLists.{same_is, same_refl}
 
 pub truth_of : {P : Type 0} → Decided P → (b : Bool) × (IsTrue b ↔ P)

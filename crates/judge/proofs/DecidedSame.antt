@@ -4,7 +4,7 @@ use Rattle.std.specs.Prelude.{◌*ℤ◌}
 use Rattle.json_model.specs.Parts.{lookup, pairs_in}
 use Rattle.json_model.specs.Same.{Same, SameElements, SameMembers, SameScalar}
 use Rattle.json_model.specs.Tree.{Scalar, null, boolean, number, string, Tree, scalar, array, object, Elements, no_elements, element, Members, no_members, member}
-use Rattle.jsonschema_regex.proofs.DecidedPatterns.{Decided}
+use Rattle.literal_patterns.proofs.DecidedPatterns.{Decided}
 use Rattle.judge.proofs.Decided.{decided_and, decided_both, same_bytes, same_counts, same_integers, same_truths}
 
 decided_scalars : (a b : Scalar) → Decided (SameScalar a b)

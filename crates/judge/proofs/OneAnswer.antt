@@ -17,7 +17,7 @@ use Rattle.judge.specs.declared.errors.KeywordError.TheVariants as keyword
 use Rattle.judge.specs.declared.keyword.Keyword.{Keyword}
 use Rattle.judge.specs.Right.{Answer, RightBy, RightFrom, RightOf, RightOnTrees, RightWith}
 use Rattle.judge.proofs.PatternFaults.{decided_engine, decided_no_pattern, deep_alone, deep_no_engine, needs_engine_form, no_pattern_form, one_of_both}
-use Rattle.jsonschema_regex.proofs.DecidedPatterns.{Decided}
+use Rattle.literal_patterns.proofs.DecidedPatterns.{Decided}
 use Rattle.judge.proofs.SomeFault.{decided_deep, decided_form_by}
 
 abbrev Pair : Type 0

@@ -3,7 +3,7 @@ use Rattle.std.proofs.Common.{inr, List, ℕ, Option, Some, None, refl}
 use Rattle.std.specs.Prelude.{IsSome, IsSomeAnd}
 use Rattle.json_model.specs.Parts.{as_string, points}
 use Rattle.json_model.specs.Tree.{Tree}
-use Rattle.jsonschema_regex.proofs.DecidedPatterns.{decided_analysis, decided_grammar, Decided}
+use Rattle.literal_patterns.proofs.DecidedPatterns.{decided_analysis, decided_grammar, Decided}
 use Rattle.judge.specs.Patterns.{IsLiteral, IsPattern}
 use Rattle.judge.specs.Validity.{HasFormBy, IsNarrowBy, IsNoPattern, KeepsDeep, NeedsEngine}
 use Rattle.judge.specs.declared.draft.Reading.{Reading}

@@ -3,11 +3,11 @@ use Rattle.std.proofs.Common.{inl, inr, List, ℕ, Option, Some, None, refl}
 use Rattle.std.specs.Prelude.{◌↔◌, IfSome, IsSome, IsSomeAnd}
 use Rattle.json_model.specs.Parts.{as_string, points}
 use Rattle.json_model.specs.Tree.{Tree}
-use Rattle.jsonschema_regex.specs.Analyses.{kept_of}
-use Rattle.jsonschema_regex.specs.declared.literal_pattern.LiteralPattern.{LiteralPattern}
-use Rattle.jsonschema_regex.proofs.DecidedHits.{decided_hits}
-use Rattle.jsonschema_regex.proofs.DecidedPatterns.{decided_analysis, decided_grammar, Decided}
-use Rattle.jsonschema_regex.proofs.MatchLaws.{keeps_matches}
+use Rattle.literal_patterns.specs.Analyses.{kept_of}
+use Rattle.literal_patterns.specs.declared.literal_pattern.LiteralPattern.{LiteralPattern}
+use Rattle.literal_patterns.proofs.DecidedHits.{decided_hits}
+use Rattle.literal_patterns.proofs.DecidedPatterns.{decided_analysis, decided_grammar, Decided}
+use Rattle.literal_patterns.proofs.MatchLaws.{keeps_matches}
 use Rattle.pattern_model.specs.Literals.{Analysis, IsAnalysis, Hits}
 use Rattle.pattern_model.proofs.LiteralMatches.{literal_matches}
 use Rattle.judge.specs.Patterns.{Finds, IsLiteral, IsPattern}

@@ -28,7 +28,7 @@ use Rattle.judge.proofs.BoundLaws.{at_most}
 use Rattle.judge.proofs.DecidedSame.{decided_same}
 use Rattle.judge.proofs.SomeFault.{decided_written}
 use Rattle.judge.proofs.UniqueLaws.{decided_unique}
-use Rattle.jsonschema_regex.proofs.DecidedPatterns.{Decided}
+use Rattle.literal_patterns.proofs.DecidedPatterns.{Decided}
 use Rattle.judge.proofs.Decided.{decided_all, decided_below, decided_both, decided_either, decided_if, decided_not, decided_some, decided_then, decided_true, decided_type, decided_whole, same_texts, same_truth_values, same_type, truth_of}
 
 -- ---- types

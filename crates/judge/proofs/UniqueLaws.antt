@@ -7,7 +7,7 @@ use Rattle.json_model.specs.Rising.{KeysRise, KeysRiseInElements}
 use Rattle.json_model.specs.Same.{IsUnique, Same, SameElements}
 use Rattle.json_model.specs.Tree.{Tree, scalar, array, object, Elements, no_elements, element}
 use Rattle.json_semantics.proofs.EquivalenceLaws.{same_chain, same_turned}
-use Rattle.jsonschema_regex.proofs.DecidedPatterns.{Decided}
+use Rattle.literal_patterns.proofs.DecidedPatterns.{Decided}
 use Rattle.judge.proofs.Decided.{decided_all, decided_not}
 use Rattle.judge.proofs.DecidedSame.{decided_same}
 

@@ -28,7 +28,7 @@ use crate::read::{read_bound, read_limit, read_silent, read_truth, read_types};
 use json_exact::{OutOfMemory, Value};
 use json_traits::types::JsonTypeSet;
 use json_traits::{Node, Object};
-use jsonschema_regex::LiteralPattern;
+use literal_patterns::LiteralPattern;
 use std::alloc::Global;
 
 /// A keyword object that is compiled once and checks many documents, whatever holds them: what it asks, with each keyword's

@@ -2,14 +2,14 @@
 
 ghost use Rattle.std.specs.Prelude.{◌↔◌, IsTrue, IfSome, IsSomeAnd, MatchResult};
 ghost use Rattle.json_model.specs.Parts.{as_string, points};
-ghost use Rattle.jsonschema_regex.specs.Analyses.{kept_of};
+ghost use Rattle.literal_patterns.specs.Analyses.{kept_of};
 ghost use Rattle.pattern_model.specs.Literals.{IsAnalysis};
 ghost use Rattle.judge.specs.inner.Passes.{AddFault, IsHit, IsRefusal};
 ghost use Rattle.judge.specs.declared.keyword.Keyword.TheVariants as keywords;
 
 use crate::errors::KeywordError;
 use json_traits::Node;
-use jsonschema_regex::{LiteralPattern, analyze_pattern, is_valid_ecma_regex};
+use literal_patterns::{LiteralPattern, analyze_pattern, is_valid_ecma_regex};
 use std::alloc::Global;
 
 /// The analysis of the string under `pattern`, with texts of its own.

@@ -17,8 +17,8 @@ use Rattle.json_traits.specs.Sets.{holds}
 use Rattle.json_traits.specs.declared.types.json_type.JsonType.{JsonType}
 use Rattle.json_traits.specs.declared.types.set.JsonTypeSet.{JsonTypeSet}
 use Rattle.std.specs.List.{AllByRecursion}
-use Rattle.jsonschema_regex.specs.Analyses.{kept_of}
-use Rattle.jsonschema_regex.specs.declared.literal_pattern.LiteralPattern.{LiteralPattern}
+use Rattle.literal_patterns.specs.Analyses.{kept_of}
+use Rattle.literal_patterns.specs.declared.literal_pattern.LiteralPattern.{LiteralPattern}
 use Rattle.pattern_model.specs.Literals.{Hits}
 use Rattle.judge.specs.Draft4.{IsOfWrittenType}
 use Rattle.judge.specs.Names.{keyword_by}

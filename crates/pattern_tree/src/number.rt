@@ -174,8 +174,9 @@ pub(crate) fn hex_two(x: &str) -> Option<(u32, &str)>
     hex_step(number, after)
 }
 
+/// Four hex digits.
 #[tactic(auto, unfolding(pattern_model::specs::Digits::hex))]
-fn hex_four(x: &str) -> Option<(u32, &str)>
+pub fn hex_four(x: &str) -> Option<(u32, &str)>
     ensures value { hex 4 (chars x.now) ≡ option_map (λ p. (p.0, chars p.1.now)) result }
     ensures small { IfSome result (λ p. p.0 < 65536) }
     ensures len { IfSome result (λ p. length p.1.now ≤ length x.now) }
@@ -188,7 +189,7 @@ fn hex_four(x: &str) -> Option<(u32, &str)>
 
 /// The code point of an escape in braces, after its opening brace.
 #[tactic(auto, unfolding(pattern_model::specs::CodePoints::code_point))]
-fn code_point(x: &str) -> Option<(u32, &str)>
+pub fn code_point(x: &str) -> Option<(u32, &str)>
     ensures value { code_point (chars x.now) ≡ option_map (λ p. (p.0, chars p.1.now)) result }
     ensures small { IfSome result (λ p. p.0 < 1114112) }
     ensures len { IfSome result (λ p. length p.1.now ≤ length x.now) }

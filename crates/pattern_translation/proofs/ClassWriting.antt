@@ -11,8 +11,8 @@ use Rattle.pattern_model.specs.Classes.{Atom, item_of_atom, range_of, range_to, 
 use Rattle.pattern_model.proofs.PartTails.{After, short_holds, class_atom_short}
 use Rattle.pattern_model.proofs.PartLaws.{many_step, many_none, many_end, class_part_shrinks}
 use Rattle.pattern_model.proofs.TokenTails.{tails_of}
-use Rattle.pattern_translation.specs.Written.{atom_written}
-use Rattle.pattern_translation.specs.Translation.{WritesAtom, WritesPart, WritesItems, WritesClass, inside, opening}
+use Rattle.rust_pattern_model.specs.Written.{atom_written}
+use Rattle.rust_pattern_model.specs.Translation.{WritesAtom, WritesPart, WritesItems, WritesClass, inside, opening}
 use Rattle.pattern_translation.specs.inner.Adding.{Adds, AddsPart}
 use Rattle.pattern_translation.proofs.CopyLaws.{adds_both}
 

@@ -7,7 +7,7 @@ use Rattle.std.proofs.lemmas.List.{append-nil}
 use lib.Utf8.{encode, encodes}
 use Rattle.pattern_model.specs.Text.{Text}
 use Rattle.pattern_model.specs.Tree.{Escape}
-use Rattle.pattern_translation.specs.Written.{spaces, escape_written}
+use Rattle.rust_pattern_model.specs.Written.{spaces, escape_written}
 use Rattle.pattern_translation.specs.inner.Adding.{Adds}
 
 -- so far one part of the text was copied, and more is left

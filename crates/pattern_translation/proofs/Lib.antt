@@ -1,9 +1,9 @@
 pub mod WitnessMatches
 pub mod WitnessLaws
-pub mod EscapeLaws
 pub mod NameLaws
 pub mod PatternWitness
 pub mod CopyLaws
 pub mod ClassWriting
 pub mod TokenWriting
 pub mod OneText
+pub mod AlikeText

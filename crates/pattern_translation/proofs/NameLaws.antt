@@ -2,15 +2,16 @@
 use Rattle.std.proofs.Common.{◌≡◌, ◌+◌, ◌<◌, Bool, true, false, List, [], ◌∷◌, ◌++◌, Some, None, refl, ap, sym, ◌∙◌, subst, arith, append_assoc}
 use Rattle.std.specs.Prelude.{◌||◌, reverse, cond}
 use Rattle.std.specs.Str.{bytes_eq}
-use Rattle.std.proofs.lemmas.List.{reverse-append}
+use Rattle.std.specs.List.{list_any}
+use Rattle.std.proofs.lemmas.List.{reverse-append, append-nil}
 use Rattle.pattern_model.specs.Tree.{Name, Mark, Tree}
 use Rattle.pattern_model.specs.SharedNames.{names}
 use Rattle.pattern_tree.specs.declared.form.NodeId.{NodeId}
 use Rattle.pattern_tree.specs.declared.pattern.Pattern.{Pattern}
 use Rattle.pattern_tree.specs.Forms.{mark_name}
 use Rattle.pattern_tree.specs.Patterns.{HasNode, node_tree}
-use Rattle.pattern_translation.specs.Refusals.{shares}
-use Rattle.pattern_translation.specs.Names.{names_of, tree_size, size_of, HaveNodes, Looked, LooksAt}
+use Rattle.rust_pattern_model.specs.Refusals.{has_twin, shares_name}
+use Rattle.pattern_translation.specs.Names.{shares, names_of, tree_size, size_of, HaveNodes, Looked, LooksAt}
 
 -- equal tests find the same
 pub shares_same : (s u : Name → Bool) → ((q : Name) → s q ≡ u q) → (ns : List Name) → shares s ns ≡ shares u ns
@@ -19,9 +20,46 @@ shares_same s u e (n ∷ ns) =
     ap (λ b. b || shares (λ q. s q || bytes_eq n q) ns) (e n)
     ∙ ap (λ b. u n || b) (shares_same (λ q. s q || bytes_eq n q) (λ q. u q || bytes_eq n q) (λ q. ap (λ b. b || bytes_eq n q) (e q)) ns)
 
+some_of_both : (s u : Name → Bool) (ns : List Name) → list_any (λ q. s q || u q) ns ≡ list_any s ns || list_any u ns
+some_of_both s u [] = refl
+some_of_both s u (n ∷ ns) = ap (λ b. (s n || u n) || b) (some_of_both s u ns) ∙ four (s n) (u n) (list_any s ns) (list_any u ns)
+  where
+    four : (a b c d : Bool) → (a || b) || (c || d) ≡ (a || c) || (b || d)
+    four true b c d = refl
+    four false true true d = refl
+    four false true false d = refl
+    four false false c d = refl
+
+three : (a b c d : Bool) → a || ((b || c) || d) ≡ (a || b) || (c || d)
+three true b c d = refl
+three false true c d = refl
+three false false c d = refl
+
+shares_any : (s : Name → Bool) (ns : List Name) → shares s ns ≡ list_any s ns || has_twin ns
+shares_any s [] = refl
+shares_any s (n ∷ ns) =
+    ap (λ b. s n || b) (shares_any (λ q. s q || bytes_eq n q) ns ∙ ap (λ b. b || has_twin ns) (some_of_both s (bytes_eq n) ns))
+    ∙ three (s n) (list_any s ns) (list_any (bytes_eq n) ns) (has_twin ns)
+
+-- where nothing was seen, a name stands twice
+pub shares_twin : (s : Name → Bool) → ((q : Name) → s q ≡ false) → (ns : List Name) → shares s ns ≡ has_twin ns
+shares_twin s e ns = shares_any s ns ∙ ap (λ b. b || has_twin ns) (none ns)
+  where
+    none : (ns : List Name) → list_any s ns ≡ false
+    none [] = refl
+    none (n ∷ ns) = ap (λ b. b || list_any s ns) (e n) ∙ none ns
+
 -- the last on the list is the next
 pub last_first : {A : Type 0} (xs : List A) (x : A) → reverse (xs ++ (x ∷ [])) ≡ x ∷ reverse xs
 last_first xs x = reverse-append xs (x ∷ [])
+
+-- at first nothing was seen, and the root is left
+pub all_left : (p : Pattern) (root : NodeId) (t : Tree) (old new : List NodeId) (s : Name → Bool) → old ≡ [] → new ≡ old ++ (root ∷ []) →
+    node_tree p root ≡ t → ((q : Name) → s q ≡ false) → shares s (names_of p (reverse new)) ≡ shares_name t
+all_left p root t old new s e f g h =
+    let r : reverse new ≡ root ∷ [] = ap reverse (f ∙ ap (λ z. z ++ (root ∷ [])) e) in
+    shares_twin s h (names_of p (reverse new))
+    ∙ (ap (λ z. has_twin (names_of p z)) r ∙ ap has_twin (append-nil (names (node_tree p root)) ∙ ap names g))
 
 -- a node without names and parts
 pub nothing_left : (p : Pattern) (id : NodeId) (nodes : List NodeId) (s : Name → Bool) → names (node_tree p id) ≡ [] →

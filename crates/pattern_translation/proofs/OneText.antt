@@ -7,8 +7,8 @@ use Rattle.pattern_model.specs.Tree.{Token, tokens_of}
 use Rattle.pattern_model.specs.Classes.{Atom, makes_range, has_hyphens}
 use Rattle.pattern_model.specs.Tokens.{token_from}
 use Rattle.pattern_tree.proofs.Leads.{one_spelled}
-use Rattle.pattern_translation.specs.Written.{atom_written}
-use Rattle.pattern_translation.specs.Translation.{WritesAtom, WritesPart, WritesItems, opening, token_written, WritesToken, Writes, Translates}
+use Rattle.rust_pattern_model.specs.Written.{atom_written}
+use Rattle.rust_pattern_model.specs.Translation.{WritesAtom, WritesPart, WritesItems, opening, token_written, WritesToken, Writes, Translates}
 use Rattle.pattern_translation.proofs.ClassWriting.{some_same}
 
 same_own : (x own other y z : Text) → x ≡ own ++ y → x ≡ other ++ z → y ≡ z → own ≡ other

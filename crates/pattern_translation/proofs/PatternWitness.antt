@@ -10,7 +10,7 @@ use Rattle.pattern_translation.specs.declared.facts.Facts as rust
 use Rattle.pattern_translation.specs.declared.refusal.Cause as cause
 use Rattle.pattern_translation.specs.Causes.{cause_of}
 use Rattle.pattern_translation.specs.Facts.{AreOf}
-use Rattle.pattern_translation.specs.Refusals.{refusal, is_vague}
+use Rattle.rust_pattern_model.specs.Refusals.{refusal, is_vague}
 use Rattle.pattern_translation.specs.Texts.{text_of}
 use Rattle.pattern_translation.specs.Witness.{witness}
 

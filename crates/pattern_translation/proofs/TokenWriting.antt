@@ -11,8 +11,8 @@ use Rattle.pattern_model.specs.Tokens.{token_from, class_from, Reads}
 use Rattle.pattern_model.specs.Grammar.{Grammar}
 use Rattle.pattern_model.proofs.TokenTails.{token_tail}
 use Rattle.pattern_tree.specs.Nodes.{IsHigh, IsRefused}
-use Rattle.pattern_translation.specs.Refusals.{Refusal, refusal, has_look_around, has_back_reference, is_unsupported}
-use Rattle.pattern_translation.specs.Translation.{WritesClass, WritesToken, token_written, Writes, Translates}
+use Rattle.rust_pattern_model.specs.Refusals.{Refusal, refusal, has_look_around, has_back_reference, is_unsupported}
+use Rattle.rust_pattern_model.specs.Translation.{WritesClass, WritesToken, token_written, Writes, Translates}
 use Rattle.pattern_translation.specs.inner.Adding.{Adds, AddsToken, token_refers, refers_in}
 use Rattle.pattern_translation.proofs.CopyLaws.{adds_both}
 use Rattle.pattern_translation.proofs.ClassWriting.{some_same}

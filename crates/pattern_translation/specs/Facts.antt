@@ -4,7 +4,7 @@ use Rattle.pattern_model.specs.Tree.{Tree}
 use Rattle.pattern_tree.specs.declared.pattern.Pattern.{Pattern}
 use Rattle.pattern_tree.specs.Patterns.{node_tree}
 use Rattle.pattern_translation.specs.declared.facts.Facts as rust
-use Rattle.pattern_translation.specs.Refusals.{has_look_around, has_back_reference, has_other_part, depth, is_vague}
+use Rattle.rust_pattern_model.specs.Refusals.{has_look_around, has_back_reference, has_other_part, depth, is_vague}
 
 -- the facts are those of the tree
 pub record AreOf (f : rust.Facts) (t : Tree) : Type 0 where

@@ -1,10 +1,7 @@
-pub mod Refusals
 pub mod Witness
 pub mod Texts
 pub mod Facts
 pub mod Names
 pub mod Causes
-pub mod Written
-pub mod Translation
 pub mod TranslateErrors
 pub mod inner

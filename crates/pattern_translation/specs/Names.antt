@@ -1,11 +1,16 @@
 -- The nodes of a pattern in memory that are still to be looked at, the next one first.
-use Rattle.std.specs.Prelude.{◌≡◌, ℕ, ◌+◌, ◌<◌, Bool, true, false, List, [], ◌∷◌, ◌++◌, reverse}
+use Rattle.std.specs.Prelude.{◌≡◌, ℕ, ◌+◌, ◌<◌, Bool, true, false, ◌||◌, List, [], ◌∷◌, ◌++◌, reverse}
+use Rattle.std.specs.Str.{bytes_eq}
 use Rattle.pattern_model.specs.Tree.{Name, Tree}
 use Rattle.pattern_model.specs.SharedNames.{names}
 use Rattle.pattern_tree.specs.declared.form.NodeId.{NodeId}
 use Rattle.pattern_tree.specs.declared.pattern.Pattern.{Pattern}
 use Rattle.pattern_tree.specs.Patterns.{HasNode, node_tree}
-use Rattle.pattern_translation.specs.Refusals.{shares}
+
+-- some name of the list passes the test, or stands there twice
+abbrev pub shares : (Name → Bool) → List Name → Bool
+shares seen [] = false
+shares seen (n ∷ ns) = seen n || shares (λ q. seen q || bytes_eq n q) ns
 
 -- the names of the groups in them
 abbrev pub names_of : Pattern → List NodeId → List Name

@@ -5,7 +5,7 @@ use Rattle.pattern_model.specs.Tree.{Tree}
 use Rattle.pattern_model.specs.Grammar.{Grammar}
 use Rattle.pattern_translation.specs.declared.translate_error.TranslateError.{TranslateError}
 use Rattle.pattern_translation.specs.declared.translate_error.TranslateError.TheVariants as errors
-use Rattle.pattern_translation.specs.Refusals.{Refusal, refusal}
+use Rattle.rust_pattern_model.specs.Refusals.{Refusal, refusal}
 
 -- a text of the widened grammar, of which this is the first cause that stands
 abbrev pub RefusedFor : Refusal → Text → Type 0

@@ -8,7 +8,7 @@ ghost use Rattle.pattern_model.specs.Tokens.{class_from};
 ghost use Rattle.pattern_model.specs.Classes as grammar;
 ghost use Rattle.pattern_model.specs.Classes.{class_part, class_items, makes_range, has_hyphens};
 ghost use Rattle.pattern_tree.specs.Nodes.{atom_of};
-ghost use Rattle.pattern_translation.specs.Translation.{WritesPart, WritesItems, WritesClass, inside, opening};
+ghost use Rattle.rust_pattern_model.specs.Translation.{WritesPart, WritesItems, WritesClass, inside, opening};
 ghost use Rattle.pattern_translation.specs.inner.Adding.{Adds, AddsPart};
 
 use crate::text::{is_at, rest};

@@ -1,63 +1,39 @@
 //! Escapes that have no translation.
 
-ghost use Rattle.std.specs.Prelude.{◌≡◌, ◌≤◌, Bool, true, false, not, ◌&&◌, ◌||◌, ◌==◌, length, drop};
+ghost use Rattle.std.specs.Prelude.{◌≡◌, Bool, true, false, not, ◌&&◌, ◌||◌, ◌==◌, drop, option_map, if◌then◌else◌};
 ghost use Rattle.std.specs.Str.{chars};
 ghost use Rattle.pattern_model.specs.Text.{is_at};
-ghost use Rattle.pattern_model.specs.Members.{is_within};
-ghost use Rattle.pattern_translation.specs.Refusals.{is_surrogate, past_zeros, is_surrogate_in_braces, names_surrogate, is_other_escape, has_other_escape};
+ghost use Rattle.pattern_model.specs.Digits.{hex};
+ghost use Rattle.pattern_model.specs.CodePoints.{code_point};
+ghost use Rattle.rust_pattern_model.specs.Refusals.{is_surrogate, names_surrogate, is_other_escape, has_other_escape};
 
 use crate::text::{is_at, rest, split_first};
+use pattern_tree::lexer::{code_point, hex_four};
 
-fn is_within(first: char, last: char, c: char) -> bool
-    ensures { result ≡ is_within first last c }
+fn is_surrogate(number: u32) -> bool
+    ensures { result ≡ is_surrogate number }
 {
-    first <= c && c <= last
+    0xD800 <= number && number <= 0xDFFF
 }
 
-fn is_surrogate(text: &str) -> bool
-    ensures { result ≡ is_surrogate (chars text.now) }
+/// The number that follows `\u`, if there is one.
+fn unicode_number(text: &str) -> Option<(u32, &str)>
+    ensures { (if is_at 123 (chars text.now) then code_point (drop 1 (chars text.now)) else hex 4 (chars text.now))
+        ≡ option_map (λ p. (p.0, chars p.1.now)) result }
 {
-    match split_first(text) {
-        None => false,
-        Some((a, after)) => match split_first(after) {
-            None => false,
-            Some((b, _)) => {
-                (a == 'D' || a == 'd')
-                    && (is_within('8', '9', b)
-                        || (is_within('A', 'F', b) || is_within('a', 'f', b)))
-            }
-        },
+    if is_at('{', text) {
+        code_point(rest(text))
+    } else {
+        hex_four(text)
     }
-}
-
-fn past_zeros(text: &str) -> &str
-    ensures value { chars result.now ≡ past_zeros (chars text.now) }
-    ensures len { length result.now ≤ length text.now }
-{
-    let mut left = text;
-    while let Some((c, after)) = split_first(left) {
-        if c != '0' {
-            break;
-        }
-        left = after;
-    }
-    left
-}
-
-fn is_surrogate_in_braces(text: &str) -> bool
-    ensures { result ≡ is_surrogate_in_braces (chars text.now) }
-{
-    let digits = past_zeros(text);
-    is_surrogate(digits) && is_at('}', rest(rest(rest(rest(digits)))))
 }
 
 fn names_surrogate(text: &str) -> bool
     ensures { result ≡ names_surrogate (chars text.now) }
 {
-    if is_at('{', text) {
-        is_surrogate_in_braces(rest(text))
-    } else {
-        is_surrogate(text)
+    match unicode_number(text) {
+        Some((number, _)) => is_surrogate(number),
+        None => false,
     }
 }
 

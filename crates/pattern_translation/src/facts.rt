@@ -9,7 +9,7 @@ ghost use Rattle.pattern_model.specs.Digits.{is_digit};
 ghost use Rattle.pattern_tree.specs.Forms.{kind_of};
 ghost use Rattle.pattern_tree.specs.Nodes.{count_in};
 ghost use Rattle.pattern_tree.specs.Patterns.{HasNode, node_tree, tree_of};
-ghost use Rattle.pattern_translation.specs.Refusals.{deeper, is_plain_name, has_other_name, has_wide_count, is_empty_class, modifies};
+ghost use Rattle.rust_pattern_model.specs.Refusals.{deeper, is_plain_name, has_other_name, has_wide_count, is_empty_class, modifies};
 ghost use Rattle.pattern_translation.specs.Facts.{AreOf, NodesHave};
 
 use crate::witness::have_no_property;

@@ -6,7 +6,7 @@ ghost use Rattle.pattern_model.specs.Tree.{Tree, tokens_of};
 ghost use Rattle.pattern_model.specs.Ordered.{IsOrdered};
 ghost use Rattle.pattern_model.specs.Matches.{is_covered, Matches};
 ghost use Rattle.pattern_translation.specs.Witness.{witness, without_assertions};
-ghost use Rattle.pattern_translation.specs.Translation.{Translates, Writes};
+ghost use Rattle.rust_pattern_model.specs.Translation.{Translates, Writes};
 
 /// A tree matches its witness from end to end, with starts, ends and boundaries read as empty. The tree has no look-around, no
 /// back-reference, no property escape and no modifiers (`is_covered`), and is ordered, as each tree of a text is.

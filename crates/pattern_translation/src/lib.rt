@@ -1,7 +1,8 @@
 //! Patterns of ECMA-262 for other readers.
 //!
-//! [`to_rust_regex`] writes a pattern for the crate `regex`, or says why it has no text. That the crate reads the text is not
-//! proved.
+//! [`to_rust_regex`] writes a pattern for the crate `regex`, or says why it has no text. By Rust's grammar, as
+//! `rust_pattern_model` has it, the text has a tree that is alike to the pattern's, and so the same matches, where the pattern has
+//! no `.`, no `\b` or `\B` outside of classes, no property escape and no modifiers. That the crate reads the text so is not proved.
 //!
 //! | pattern | text for Rust |
 //! |---|---|
@@ -11,8 +12,8 @@
 //! | `(?<\u0061>x)`, `\0` | `(?<a>x)`, `\x00` |
 //! | `(abc`, `(?=a)b`, `(a)\1`, `[]` | [`TranslateError`]: `Invalid`, `LookAround`, `BackReference`, `Unsupported` |
 //!
-//! `specs/Written.antt` has what is written for an escape, a code point and an atom of a class, row by row, and
-//! `specs/Translation.antt` how these texts make that of a whole pattern.
+//! In `rust_pattern_model`, `specs/Written.antt` has what is written for an escape, a code point and an atom of a class, row by row,
+//! and `specs/Translation.antt` how these texts make that of a whole pattern.
 //!
 //! [`pattern_witness`] gives a text that a pattern matches where `^`, `$`, `\b` and `\B` are read as empty, or None:
 //!
@@ -26,7 +27,7 @@
 //! Patterns are read by the widened grammar of `pattern_model`: its grammar of ECMA-262, but `]` and `}` may stand for themselves
 //! outside of classes, and in a class `\d--`, and so with each class escape, is three items. The witness is that of
 //! the tree, as `specs/Witness.antt` has it. There is none where the pattern has no text for Rust, for one of the causes in
-//! `specs/Refusals.antt`: look-around, back-references, and parts that are not translated, as an empty class, `\b` in a class, or a
+//! `specs/Refusals.antt` of `rust_pattern_model`: look-around, back-references, and parts that are not translated, as an empty class, `\b` in a class, or a
 //! count of 2^32 or more. Nor is there one where the pattern has a property escape or a group with
 //! modifiers, since what these match is not told here.
 //!

@@ -4,7 +4,7 @@ ghost use Rattle.std.specs.Prelude.{◌≡◌, ℕ, List, true, false, ◌||◌,
 ghost use Rattle.std.specs.Str.{bytes_eq};
 ghost use Rattle.std.specs.BTreeSet.{contains_text};
 ghost use Rattle.pattern_tree.specs.Patterns.{HasNode, tree_of};
-ghost use Rattle.pattern_translation.specs.Refusals.{shares_name};
+ghost use Rattle.rust_pattern_model.specs.Refusals.{shares_name};
 ghost use Rattle.pattern_translation.specs.Names.{LooksAt};
 
 use pattern_tree::{Form, NodeId, Pattern};

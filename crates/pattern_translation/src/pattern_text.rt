@@ -7,8 +7,8 @@ ghost use Rattle.pattern_model.specs.Text.{Text};
 ghost use Rattle.pattern_model.specs.Tree as tree;
 ghost use Rattle.pattern_model.specs.Tokens.{token_from, Reads};
 ghost use Rattle.pattern_tree.specs.Nodes.{escape_of, leaf_of, mark_of, token_of, IsRefused};
-ghost use Rattle.pattern_translation.specs.Written.{escape_written, code_written};
-ghost use Rattle.pattern_translation.specs.Translation.{leaf_written, mark_written, token_written, WritesToken, Writes};
+ghost use Rattle.rust_pattern_model.specs.Written.{escape_written, code_written};
+ghost use Rattle.rust_pattern_model.specs.Translation.{leaf_written, mark_written, token_written, WritesToken, Writes};
 ghost use Rattle.pattern_translation.specs.inner.Adding.{Adds, AddsToken, refers_in};
 
 use crate::class::write_class;

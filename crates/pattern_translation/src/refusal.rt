@@ -4,7 +4,7 @@ ghost use Rattle.std.specs.Prelude.{◌≡◌, IfOk, option_map};
 ghost use Rattle.std.specs.Str.{chars};
 ghost use Rattle.pattern_tree.specs.Patterns.{tree_of};
 ghost use Rattle.pattern_translation.specs.Facts.{AreOf};
-ghost use Rattle.pattern_translation.specs.Refusals.{is_unsupported, refusal};
+ghost use Rattle.rust_pattern_model.specs.Refusals.{is_unsupported, refusal};
 ghost use Rattle.pattern_translation.specs.Causes.{cause_of};
 
 use crate::escapes::has_other_escape;

@@ -5,7 +5,8 @@ ghost use Rattle.std.specs.Str.{chars};
 ghost use Rattle.std.specs.Cow.{cow_str_bytes};
 ghost use lib.Utf8.{encodes};
 ghost use Rattle.pattern_model.specs.Text.{Text};
-ghost use Rattle.pattern_translation.specs.Translation.{Translates};
+ghost use Rattle.rust_pattern_model.specs.Translation.{Translates};
+ghost use Rattle.rust_pattern_model.specs.Alike.{IsAlike};
 ghost use Rattle.pattern_translation.specs.TranslateErrors.{IsCause};
 
 use crate::facts::tree_facts;
@@ -21,12 +22,18 @@ use std::borrow::CowStr;
 ///
 /// The pattern is read by the widened grammar. Changed are class escapes, `\c` and a letter, `\0`, `\<`, `\>`, the escapes in the
 /// names of groups, and in a class `[`, doubled `&` and `~`, and hyphens beside hyphens, but for a range's own. All else is copied.
-/// What `.`, `\b`, `\B`, modifiers and property escapes then mean is not told here.
+///
+/// By Rust's written grammar the text has a tree that is alike to the pattern's (clause `alike`): the same, but that classes and class
+/// escapes have the same members, written in another way. So it has the same matches at the same places in every text, by
+/// `rust_pattern_model::laws::alike_trees_match_alike`. Nothing is said so of a pattern with `.`, `\b` or `\B` outside of classes, a
+/// property escape or a group with modifiers: what these then mean is not told here.
 ///
 /// It takes memory for the tree, for what is asked of it, and for the text.
 pub fn to_rust_regex<'a>(alloc: Global, pattern: &'a str) -> Result<CowStr<'a>, TranslateError>
     requires { length pattern.now < 2 ^ 30 }
     ensures translated { IfOk result (λ s. (w : Text) × Translates (chars pattern.now) w
+        × (cow_str_bytes s ≡ encodes w)) }
+    ensures alike { IfOk result (λ s. (w : Text) × IsAlike (chars pattern.now) w
         × (cow_str_bytes s ≡ encodes w)) }
     ensures refused { IfErr result (λ e. IsCause e (chars pattern.now)) }
 {

@@ -4,7 +4,7 @@ ghost use Rattle.std.specs.Prelude.{◌≡◌, ◌<◌, ◌^◌, false, length, 
 ghost use Rattle.std.specs.Str.{chars};
 ghost use Rattle.pattern_model.specs.Tree.{Tree};
 ghost use Rattle.pattern_model.specs.Grammar.{Grammar};
-ghost use Rattle.pattern_translation.specs.Refusals.{refusal, is_vague};
+ghost use Rattle.rust_pattern_model.specs.Refusals.{refusal, is_vague};
 ghost use Rattle.pattern_translation.specs.Witness.{witness};
 
 use crate::facts::tree_facts;

@@ -4,7 +4,7 @@ ghost use Rattle.std.specs.Prelude.{◌≡◌, ℕ, Bool, List, ◌∷◌, ◌++
 ghost use Rattle.std.specs.Str.{chars};
 ghost use Rattle.pattern_model.specs.Text.{Text, is_at};
 ghost use Rattle.pattern_tree.specs.Nodes.{escape_of, atom_of};
-ghost use Rattle.pattern_translation.specs.Written.{spaces, escape_written, is_escape, control_of, code_written, gets_backslash, atom_written};
+ghost use Rattle.rust_pattern_model.specs.Written.{spaces, escape_written, is_escape, control_of, code_written, gets_backslash, atom_written};
 ghost use Rattle.pattern_translation.specs.inner.Adding.{Adds};
 
 use crate::text::{is_at, rest, split_first};

@@ -5,8 +5,8 @@ use Rattle.pattern_model.specs.Text.{Text}
 use Rattle.pattern_model.specs.Tree.{Item, Token}
 use Rattle.pattern_model.specs.Classes.{class_part}
 use Rattle.pattern_model.specs.Tokens.{token_from}
-use Rattle.pattern_translation.specs.Refusals.{refers_back}
-use Rattle.pattern_translation.specs.Translation.{WritesPart, WritesToken}
+use Rattle.rust_pattern_model.specs.Refusals.{refers_back}
+use Rattle.rust_pattern_model.specs.Translation.{WritesPart, WritesToken}
 
 -- the text stands behind the bytes
 abbrev pub Adds : List ℕ → List ℕ → Text → Type 0

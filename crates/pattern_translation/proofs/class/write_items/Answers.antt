@@ -3,7 +3,7 @@ use Rattle.std.specs.Prelude.{string_bytes}
 use Rattle.std.specs.Str.{chars}
 use Rattle.std.proofs.lemmas.Str.{chars-nil}
 use Rattle.pattern_model.specs.Classes.{class_part}
-use Rattle.pattern_translation.specs.Translation.{WritesItems}
+use Rattle.rust_pattern_model.specs.Translation.{WritesItems}
 use Rattle.pattern_translation.specs.inner.Adding.{AddsPart}
 use Rattle.pattern_translation.proofs.CopyLaws.{adds_nothing}
 use Rattle.pattern_translation.proofs.ClassWriting.{no_items, part_added, items_done}

@@ -6,7 +6,7 @@ use Rattle.std.specs.Str.{chars}
 use Rattle.pattern_model.specs.Text.{Text}
 use Rattle.pattern_model.specs.Tree.{Item}
 use Rattle.pattern_model.specs.Classes.{class_items}
-use Rattle.pattern_translation.specs.Translation.{WritesItems}
+use Rattle.rust_pattern_model.specs.Translation.{WritesItems}
 use Rattle.pattern_translation.specs.inner.Adding.{Adds}
 use Rattle.pattern_translation.proofs.class.write_items.Given as goal
 

@@ -2,8 +2,8 @@ use Rattle.std.proofs.Common.{rules, ◌≡◌, ap, sym, ◌∙◌, arith, false
 use Rattle.std.specs.Prelude.{◌==◌, if◌then◌else◌, not}
 use Rattle.std.specs.Str.{chars}
 use Rattle.std.proofs.lemmas.Bool.Decides.{nat_tests}
-use Rattle.pattern_translation.specs.Refusals.{has_other_escape}
-use Rattle.pattern_translation.proofs.EscapeLaws.{past_escape, past_other}
+use Rattle.rust_pattern_model.specs.Refusals.{has_other_escape}
+use Rattle.rust_pattern_model.proofs.EscapeScan.{past_escape, past_other}
 use Rattle.pattern_translation.proofs.escapes.has_other_escape.Goals as goal
 
 pub loop-c-preserved-then-c-eq92 : goal.loop-c-preserved-then-c-eq92

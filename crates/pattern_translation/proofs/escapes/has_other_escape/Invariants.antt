@@ -2,7 +2,7 @@ use Rattle.std.proofs.Common.{◌≡◌, length, false}
 use denote.Text.{Utf8}
 use denote.Shadow.{shadow}
 use Rattle.std.specs.Str.{chars}
-use Rattle.pattern_translation.specs.Refusals.{has_other_escape}
+use Rattle.rust_pattern_model.specs.Refusals.{has_other_escape}
 use Rattle.pattern_translation.proofs.escapes.has_other_escape.Given as goal
 
 abbrev pub invariant-loop-c : goal.invariant-loop-c

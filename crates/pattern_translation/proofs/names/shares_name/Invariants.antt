@@ -2,8 +2,8 @@ use Rattle.std.proofs.Common.{◌≡◌}
 use Rattle.std.specs.Prelude.{reverse}
 use Rattle.std.specs.BTreeSet.{contains_text}
 use Rattle.pattern_tree.specs.Patterns.{tree_of}
-use Rattle.pattern_translation.specs.Refusals.{shares, shares_name}
-use Rattle.pattern_translation.specs.Names.{names_of, size_of, HaveNodes}
+use Rattle.rust_pattern_model.specs.Refusals.{shares_name}
+use Rattle.pattern_translation.specs.Names.{shares, names_of, size_of, HaveNodes}
 use Rattle.pattern_translation.proofs.names.shares_name.Given as goal
 
 abbrev pub invariant-loop-id : goal.invariant-loop-id

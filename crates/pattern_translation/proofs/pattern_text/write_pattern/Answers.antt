@@ -3,7 +3,7 @@ use Rattle.std.specs.Prelude.{string_bytes}
 use Rattle.std.specs.Str.{chars}
 use Rattle.pattern_model.specs.Tokens.{token_from}
 use Rattle.pattern_tree.specs.Nodes.{IsRefused}
-use Rattle.pattern_translation.specs.Translation.{Writes}
+use Rattle.rust_pattern_model.specs.Translation.{Writes}
 use Rattle.pattern_translation.specs.inner.Adding.{AddsToken}
 use Rattle.pattern_translation.proofs.TokenWriting.{next_added, all_added, not_refused}
 use Rattle.pattern_translation.proofs.pattern_text.write_pattern.Goals as goal

@@ -7,7 +7,7 @@ use Rattle.std.specs.Str.{chars}
 use Rattle.pattern_model.specs.Text.{Text}
 use Rattle.pattern_model.specs.Tree.{Token}
 use Rattle.pattern_model.specs.Tokens.{Reads}
-use Rattle.pattern_translation.specs.Translation.{Writes}
+use Rattle.rust_pattern_model.specs.Translation.{Writes}
 use Rattle.pattern_translation.specs.inner.Adding.{refers_in}
 use Rattle.pattern_translation.proofs.pattern_text.write_pattern.Given as goal
 

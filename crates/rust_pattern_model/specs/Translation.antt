@@ -6,8 +6,8 @@ use Rattle.pattern_model.specs.Classes.{Atom, class_atom, makes_range, has_hyphe
 use Rattle.pattern_model.specs.Tokens.{token_from}
 use Rattle.pattern_model.specs.Grammar.{Grammar}
 use Rattle.pattern_model.specs.Tree.{Leaf, Mark, Token, Tree, tokens_of}
-use Rattle.pattern_translation.specs.Refusals.{refusal}
-use Rattle.pattern_translation.specs.Written.{escape_written, code_written, atom_written}
+use Rattle.rust_pattern_model.specs.Refusals.{refusal}
+use Rattle.rust_pattern_model.specs.Written.{escape_written, code_written, atom_written}
 
 -- an atom of a class, with which x begins and behind which y stands
 pub record WritesAtom (before x : Text) (a : Atom) (y w : Text) : Type 0 where

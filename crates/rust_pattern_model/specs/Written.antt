@@ -8,8 +8,8 @@ use Rattle.pattern_model.specs.Tree.{Escape}
 -- white space and the ends of lines, as ranges
 abbrev pub spaces : Text
 spaces =
-    codes
-    "\\x{9}-\\x{d}\\x{20}-\\x{20}\\x{a0}-\\x{a0}\\x{1680}-\\x{1680}\\x{2000}-\\x{200a}\\x{2028}-\\x{2029}\\x{202f}-\\x{202f}\\x{205f}-\\x{205f}\\x{3000}-\\x{3000}\\x{feff}-\\x{feff}"
+    codes "\\x{9}-\\x{d}\\x{20}-\\x{20}\\x{a0}-\\x{a0}\\x{1680}-\\x{1680}\\x{2000}-\\x{200a}"
+    ++ codes "\\x{2028}-\\x{2029}\\x{202f}-\\x{202f}\\x{205f}-\\x{205f}\\x{3000}-\\x{3000}\\x{feff}-\\x{feff}"
 
 -- the class escapes, in a class or outside
 abbrev pub escape_written : Escape → Text

@@ -2,12 +2,12 @@
 -- lacks (its documentation, section "Syntax"), or has in another form that is not written here, as names past ASCII.
 use Rattle.std.specs.Prelude.{ℕ, ◌+◌, Bool, true, false, not, ◌&&◌, ◌||◌, ◌==◌, nat_le, nat_lt, if◌then◌else◌, List, [], ◌∷◌, drop, Option, Some, None}
 use Rattle.std.specs.List.{list_all}
-use Rattle.std.specs.Str.{bytes_eq}
 use Rattle.pattern_model.specs.Text.{Text, is_at}
-use Rattle.pattern_model.specs.Digits.{is_digit}
-use Rattle.pattern_model.specs.Members.{is_no_property, is_within}
+use Rattle.pattern_model.specs.Digits.{is_digit, hex}
+use Rattle.pattern_model.specs.CodePoints.{code_point}
+use Rattle.pattern_model.specs.Members.{is_no_property}
 use Rattle.pattern_model.specs.Properties.{is_word}
-use Rattle.pattern_model.specs.SharedNames.{names}
+use Rattle.pattern_model.specs.SharedNames.{names, is_in}
 use Rattle.pattern_model.specs.Matches.{is_narrow}
 use Rattle.pattern_model.specs.Tree.{Leaf, Mark, Bounds, Name, Tree, is_look}
 
@@ -66,31 +66,26 @@ depth (Tree.repeat t b) = depth t
 depth (Tree.sequence l r) = deeper (depth l) (depth r)
 depth (Tree.either l r) = deeper (depth l) (depth r)
 
--- some name of the list passes the test, or stands there twice
-abbrev pub shares : (Name → Bool) → List Name → Bool
-shares seen [] = false
-shares seen (n ∷ ns) = seen n || shares (λ q. seen q || bytes_eq n q) ns
+-- a name of the list stands there twice
+abbrev pub has_twin : List Name → Bool
+has_twin [] = false
+has_twin (n ∷ ns) = is_in n ns || has_twin ns
 
 -- two groups have one name
 abbrev pub shares_name : Tree → Bool
-shares_name t = shares (λ q. false) (names t)
+shares_name t = has_twin (names t)
 
--- The surrogates are the numbers of four hex digits that begin with d8 to df.
-abbrev pub is_surrogate : Text → Bool
-is_surrogate (a ∷ b ∷ x) = (a == 68 || a == 100) && (is_within 56 57 b || (is_within 65 70 b || is_within 97 102 b))
-is_surrogate _ = false
+-- D800 to DFFF: the code points that are no characters
+abbrev pub is_surrogate : ℕ → Bool
+is_surrogate n = nat_le 55296 n && nat_le n 57343
 
-abbrev pub past_zeros : Text → Text
-past_zeros [] = []
-past_zeros (c ∷ x) = if c == 48 then past_zeros x else c ∷ x
+abbrev pub has_surrogate : Option (ℕ × Text) → Bool
+has_surrogate None = false
+has_surrogate (Some p) = is_surrogate p.0
 
--- four digits and the closing brace, after zeros
-abbrev pub is_surrogate_in_braces : Text → Bool
-is_surrogate_in_braces x = is_surrogate (past_zeros x) && is_at 125 (drop 4 (past_zeros x))
-
--- what follows `\u` stands for a surrogate, be it one of a pair or alone
+-- the number that follows `\u` is a surrogate's, be it one of a pair or alone
 abbrev pub names_surrogate : Text → Bool
-names_surrogate x = if is_at 123 x then is_surrogate_in_braces (drop 1 x) else is_surrogate x
+names_surrogate x = has_surrogate (if is_at 123 x then code_point (drop 1 x) else hex 4 x)
 
 -- An escape that has no translation, behind its backslash: a character past ASCII, a surrogate, or `\b` in a class.
 abbrev pub is_other_escape : Bool → Text → Bool
@@ -136,3 +131,14 @@ modifies _ = false
 -- a property escape, or a group with modifiers: what these match is not told here
 abbrev pub is_vague : Tree → Bool
 is_vague t = some_part has_property modifies (λ b. false) t
+
+-- the pattern has a part that is copied, and of which Rust's grammar tells nothing here: `.`, `\b` or `\B` outside of classes, a
+-- property escape, or a group with modifiers
+abbrev pub is_copied_untold : Leaf → Bool
+is_copied_untold Leaf.dot = true
+is_copied_untold Leaf.boundary = true
+is_copied_untold Leaf.not_boundary = true
+is_copied_untold l = has_property l
+
+abbrev pub has_untold_part : Tree → Bool
+has_untold_part t = some_part is_copied_untold modifies (λ b. false) t

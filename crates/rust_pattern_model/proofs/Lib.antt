@@ -1,0 +1,16 @@
+pub mod Rows
+pub mod Shown
+pub mod Alone
+pub mod EscapeReads
+pub mod EscapeScan
+pub mod TreeMaps
+pub mod AlikeLaws
+pub mod EscapeSets
+pub mod ClassAtoms
+pub mod ClassRows
+pub mod RowReads
+pub mod ClassReads
+pub mod QuantifierReads
+pub mod TokenReads
+pub mod TextReads
+pub mod OneReading

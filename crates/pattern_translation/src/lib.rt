@@ -42,8 +42,6 @@ pub mod laws;
 mod names;
 mod pattern_text;
 mod refusal;
-#[cfg(test)]
-mod tests;
 mod text;
 mod translate;
 mod translate_error;

@@ -5,12 +5,10 @@ pub mod BoundLaws
 pub mod CodeAnswers
 pub mod Compiling
 pub mod Counts
-pub mod Cuts
 pub mod Decided
 pub mod DecidedSame
 pub mod InputAnswers
 pub mod KeptValues
-pub mod KnownBytes
 pub mod LineAnswers
 pub mod MadePairs
 pub mod NameLists
@@ -18,14 +16,11 @@ pub mod OneAnswer
 pub mod Pairs
 pub mod PatternFaults
 pub mod PatternVerdicts
-pub mod Runs
 pub mod SameVerdict
 pub mod SomeAnswer
 pub mod SomeFault
 pub mod SomeRead
 pub mod SomeVerdict
-pub mod Steps
-pub mod Texts
 pub mod Summaries
 pub mod TypeLists
 pub mod RequiredKeys

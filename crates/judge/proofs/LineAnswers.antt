@@ -8,7 +8,7 @@ use Rattle.jsonb.specs.Root.{IsRead}
 use Rattle.jsonb.specs.declared.error.JsonbError.{JsonbError}
 use Rattle.jsonb.specs.declared.error.JsonbError.TheVariants as read
 use Rattle.judge.specs.Answers.{IsJudged, IsPair, LineAnswerBy, fault_name, name_of}
-use Rattle.judge.specs.Lines.{Lacks}
+use Rattle.line_program.specs.Lines.{Lacks}
 use Rattle.judge.specs.Right.{Answer, RightBy, RightFrom, RightOf, RightWith}
 use Rattle.judge.specs.Validity.{HasFaultBy}
 use Rattle.judge.specs.declared.draft.Draft.{Draft}

@@ -8,10 +8,10 @@ use Rattle.judge.specs.declared.draft.Draft.{Draft}
 use Rattle.judge.specs.declared.errors.JudgeError.{JudgeError}
 use Rattle.judge.specs.declared.errors.JudgeError.TheVariants.{OutOfMemory}
 use Rattle.judge.specs.Answers.{IsJudged, IsPair, LineAnswerBy, name_of}
-use Rattle.judge.specs.inner.Feeding.{AnswersOne}
-use Rattle.judge.specs.Lines.{Lacks}
+use Rattle.line_program.specs.Answers.{AnswersOne}
+use Rattle.line_program.specs.Lines.{Lacks}
 use Rattle.judge.specs.Right.{RightBy}
-use Rattle.judge.proofs.Texts.{Lacks-cut, cut_once}
+use Rattle.line_program.proofs.Texts.{Lacks-cut, cut_once}
 
 -- a hex text has no space
 pub hex_lacks : (text bytes : List ℕ) → IsHexText text bytes → Lacks 32 text

@@ -7,12 +7,6 @@ pub mod Right
 pub mod Codes
 pub mod Compiled
 pub mod Answers
-pub mod Faults
-pub mod Lines
 pub mod Made
-pub mod Memory
-pub mod Ran
-pub mod Status
-pub mod Steady
 pub mod Words
 pub mod inner

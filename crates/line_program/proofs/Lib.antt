@@ -1,0 +1,6 @@
+pub mod Cuts
+pub mod InputAnswers
+pub mod KnownBytes
+pub mod Runs
+pub mod Steps
+pub mod Texts

@@ -2,7 +2,7 @@
 use Rattle.std.proofs.Common.{◌≡◌, ℕ, List, ◌++◌}
 use Rattle.judge.specs.Answers.{LineAnswerBy}
 use Rattle.judge.specs.Codes.{CodeAnswer}
-use Rattle.judge.specs.declared.draft.Draft.{Draft}
+use Rattle.flat_keywords.specs.declared.draft.Draft.{Draft}
 use Rattle.judge.proofs.CodeAnswers.{one_code, some_code}
 use Rattle.judge.proofs.LineAnswers.{one_line_answer, some_line_answer}
 use Rattle.line_program.proofs.InputAnswers.{agrees_begins, one_text, some_text}

@@ -4,13 +4,13 @@ use Rattle.std.specs.Prelude.{IfOk, IsNone, IsSomeAnd, MatchOption}
 use Rattle.std.specs.Result.{result_ok}
 use Rattle.jsonb.specs.HexText.{IsHexText}
 use Rattle.jsonb.proofs.HexTexts.{pair_no_space}
-use Rattle.judge.specs.declared.draft.Draft.{Draft}
-use Rattle.judge.specs.declared.errors.JudgeError.{JudgeError}
-use Rattle.judge.specs.declared.errors.JudgeError.TheVariants.{OutOfMemory}
+use Rattle.flat_keywords.specs.declared.draft.Draft.{Draft}
+use Rattle.flat_keywords.specs.declared.errors.JudgeError.{JudgeError}
+use Rattle.flat_keywords.specs.declared.errors.JudgeError.TheVariants.{OutOfMemory}
 use Rattle.judge.specs.Answers.{IsJudged, IsPair, LineAnswerBy, name_of}
 use Rattle.line_program.specs.Answers.{AnswersOne}
 use Rattle.line_program.specs.Lines.{Lacks}
-use Rattle.judge.specs.Right.{RightBy}
+use Rattle.flat_keywords.specs.Right.{RightBy}
 use Rattle.line_program.proofs.Texts.{Lacks-cut, cut_once}
 
 -- a hex text has no space

@@ -1,11 +1,4 @@
-pub mod Draft4
-pub mod Names
-pub mod Patterns
-pub mod Verdict
-pub mod Validity
-pub mod Right
 pub mod Codes
-pub mod Compiled
 pub mod Answers
 pub mod Made
 pub mod Words

@@ -3,7 +3,7 @@ ghost use Rattle.std.specs.Prelude.{◌≡◌, ◌∷◌, ◌++◌, [], ℕ, Lis
 ghost use Rattle.jsonb.specs.HexText.{IsHexText};
 ghost use Rattle.judge.specs.Answers.{IsPair, LineAnswerBy, name_of};
 
-use crate::{Draft, Fault, JudgeError, judge_draft};
+use flat_keywords::{Draft, Fault, JudgeError, judge_draft};
 use jsonb::encode::{HexError, decode_hex};
 use line_program::{Command, cut_at};
 use std::alloc::{AllocError, Global};

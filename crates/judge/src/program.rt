@@ -8,11 +8,11 @@ ghost use Rattle.judge.specs.Made.{Made};
 ghost use Rattle.line_program.specs.Ran.{Ran};
 ghost use Rattle.judge.specs.Words.{AreGood, IsCheck, IsCheck4, IsEncode, IsMake};
 
-use crate::Draft;
 use crate::answer::CheckCommand;
 use crate::code::EncodeCommand;
 use crate::make::make;
 use crate::words::{Request, read_words};
+use flat_keywords::Draft;
 use line_program::{Sink, Source, Status, answer_lines};
 use std::alloc::Global;
 

@@ -7,8 +7,8 @@ ghost use Rattle.judge.specs.Codes.{CodeAnswer};
 ghost use Rattle.line_program.specs.Lines.{lines_of};
 ghost use Rattle.judge.specs.Made.{IsMadeText, IsSummary};
 ghost use Rattle.line_program.specs.Ran.{Agrees};
-ghost use Rattle.judge.specs.Right.{Answer, RightBy};
-ghost use Rattle.judge.specs.declared.draft.Draft.{Draft};
+ghost use Rattle.flat_keywords.specs.Right.{Answer, RightBy};
+ghost use Rattle.flat_keywords.specs.declared.draft.Draft.{Draft};
 ghost use Rattle.line_program.specs.declared.status.Status.{Status};
 
 /// Each right answer of two slices has a printed name: want of memory is right of none.

@@ -7,7 +7,7 @@ use Rattle.judge.specs.Made.{Made}
 use Rattle.line_program.specs.Ran.{Ran}
 use Rattle.line_program.specs.Status.{code_of}
 use Rattle.judge.specs.Words.{AreGood, IsCheck, IsCheck4, IsEncode, IsMake}
-use Rattle.judge.specs.declared.draft.Draft.TheVariants as drafts
+use Rattle.flat_keywords.specs.declared.draft.Draft.TheVariants as drafts
 use Rattle.line_program.specs.declared.status.Status.{Status}
 use Rattle.line_program.specs.declared.status.Status.TheVariants.{BadWords, ReadFault, WriteFault}
 

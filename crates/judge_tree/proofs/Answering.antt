@@ -5,8 +5,8 @@ use Rattle.json_model.specs.Tree.{Tree}
 use Rattle.jsonb.specs.Root.{IsRead}
 use Rattle.jsonb.specs.declared.error.JsonbError.{JsonbError}
 use Rattle.jsonb.specs.declared.error.JsonbError.TheVariants as read
-use Rattle.judge.proofs.Answering.{err_is}
-use Rattle.judge.proofs.Answering.{Said}
+use Rattle.flat_keywords.proofs.Answering.{err_is}
+use Rattle.flat_keywords.proofs.Answering.{Said}
 use Rattle.judge_tree.specs.Compiled.{IsCompiled, IsRefused, Passes}
 use Rattle.judge_tree.specs.Right.{Answer, Right, document_error, schema_error, slice_error}
 use Rattle.judge_tree.specs.declared.errors.SchemaError.{SchemaError}

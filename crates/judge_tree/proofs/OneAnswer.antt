@@ -4,7 +4,7 @@ use Rattle.std.specs.Prelude.{Result, Ok, Err, ◌↔◌, IsTrue}
 use Rattle.json_model.specs.Tree.{Tree}
 use Rattle.jsonb.proofs.OneRead.{one_read}
 use Rattle.jsonb.specs.declared.error.JsonbError.{JsonbError}
-use Rattle.judge.proofs.OneAnswer.{one_truth}
+use Rattle.flat_keywords.proofs.OneAnswer.{one_truth}
 use Rattle.judge_tree.specs.Compiled.{HasFault}
 use Rattle.judge_tree.specs.Right.{Answer, Right, RightFrom, RightOf, RightWith}
 use Rattle.judge_tree.specs.Verdict.{IsValidUnder}

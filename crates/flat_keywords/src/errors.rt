@@ -30,7 +30,8 @@ pub enum KeywordError {
     /// The first faulty member has none of the names of its draft, as in `{"x":1}`.
     #[error("UnknownKeyword")]
     UnknownKeyword { member: usize },
-    /// The first faulty member's value has not the form that its keyword asks for, as in `{"type":"x"}`.
+    /// The first faulty member's value has not the form that its keyword asks for, as in `{"type":"x"}`. By draft 4 so is an
+    /// `exclusiveMinimum` without `minimum`, and an `exclusiveMaximum` without `maximum`.
     #[error("BadKeyword")]
     BadKeyword { member: usize },
     /// The first faulty member is `pattern` with a string that is no pattern of ECMA-262, as in `{"pattern":"("}`.
@@ -62,7 +63,8 @@ pub enum JudgeError {
     /// The first faulty member has none of the names of its draft, as in `{"x":1}`.
     #[error("UnknownKeyword")]
     UnknownKeyword { member: usize },
-    /// The first faulty member's value has not the form that its keyword asks for, as in `{"type":"x"}`.
+    /// The first faulty member's value has not the form that its keyword asks for, as in `{"type":"x"}`. By draft 4 so is an
+    /// `exclusiveMinimum` without `minimum`, and an `exclusiveMaximum` without `maximum`.
     #[error("BadKeyword")]
     BadKeyword { member: usize },
     /// The first faulty member is `pattern` with a string that is no pattern of ECMA-262, as in `{"pattern":"("}`.

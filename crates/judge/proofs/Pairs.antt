@@ -7,7 +7,7 @@ use Rattle.jsonb.proofs.HexTexts.{pair_no_space}
 use Rattle.flat_keywords.specs.declared.draft.Draft.{Draft}
 use Rattle.flat_keywords.specs.declared.errors.JudgeError.{JudgeError}
 use Rattle.flat_keywords.specs.declared.errors.JudgeError.TheVariants.{OutOfMemory}
-use Rattle.judge.specs.Answers.{IsJudged, IsPair, LineAnswerBy, name_of}
+use Rattle.judge.specs.Answers.{IsPair, LineAnswerBy, name_of}
 use Rattle.line_program.specs.Answers.{AnswersOne}
 use Rattle.line_program.specs.Lines.{Lacks}
 use Rattle.flat_keywords.specs.Right.{RightBy}
@@ -34,42 +34,45 @@ parts_once line first second k d e lacks pair =
 pub no_parts : (line k d : List ℕ) → Lacks 32 line → IsPair line k d → ⊥
 no_parts line k d lacks pair = Lacks-cut 32 pair.first pair.second (subst (λ t. Lacks 32 t) pair.whole lacks)
 
--- ---- the answer to a pair
+-- ---- what is printed of an answer
 
-no_name : (verdict : Result Bool JudgeError) (name : List ℕ) → verdict ≡ Err OutOfMemory → name_of verdict ≡ Some name → ⊥
-no_name verdict name memory named = let none : name_of verdict ≡ None = ap name_of memory in cc
+-- its name and the end of a line, or nothing where it has no name
+abbrev pub Printed : Option (List ℕ) → Option (Bor (List ℕ)) → Type 0
+Printed name o = MatchOption name (IsNone o) (λ n. IsSomeAnd o (λ t. t.now ≡ n ++ 10 ∷ []))
 
-module _ (draft : Draft) where
-  named_answer : (line k d : List ℕ) (verdict : Result Bool JudgeError) (name text : List ℕ) → IsPair line k d
-      → (verdict ≡ Err OutOfMemory) ⊎ RightBy draft k d verdict → name_of verdict ≡ Some name → text ≡ name ++ 10 ∷ []
-      → AnswersOne (LineAnswerBy draft) line text
-  named_answer line k d verdict name text pair (inl memory) named is = absurd (no_name verdict name memory named)
-  named_answer line k d verdict name text pair (inr right) named is =
-      let judged : IsJudged draft line name =
-      record { keywords = k; document = d; verdict = verdict; pair = pair; right = right; named = named } in
-      record { answer = name; right = inl judged; is = is }
+-- of some answers one is want of memory, and has no name; the name of each right one answers the line
+module _ {V : Type 0} (name_of_it : V → Option (List ℕ)) (memory : V) (IsRight : V → Type 0) (IsAnswer : List ℕ → List ℕ → Type 0)
+    (line : List ℕ) (silent : name_of_it memory ≡ None)
+    (answers : (v : V) (name : List ℕ) → IsRight v → name_of_it v ≡ Some name → IsAnswer line name) where
+  no_name : (v : V) (name : List ℕ) → v ≡ memory → name_of_it v ≡ Some name → ⊥
+  no_name v name is named = let none : name_of_it v ≡ None = ap name_of_it is ∙ silent in cc
 
-  printed_name : (line k d : List ℕ) (verdict : Result Bool JudgeError) (name : Option (List ℕ)) (text : Bor (List ℕ)) → IsPair line k d
-      → (verdict ≡ Err OutOfMemory) ⊎ RightBy draft k d verdict → name_of verdict ≡ name
-      → MatchOption name (IsNone (Some text)) (λ n. IsSomeAnd (Some text) (λ t. t.now ≡ n ++ 10 ∷ []))
-      → AnswersOne (LineAnswerBy draft) line text.now
-  printed_name line k d verdict None text pair right named h = cc
-  printed_name line k d verdict (Some name) text pair right named h = named_answer line k d verdict name text.now pair right named h
+  named_answer : (v : V) (name text : List ℕ) → (v ≡ memory) ⊎ IsRight v → name_of_it v ≡ Some name → text ≡ name ++ 10 ∷ []
+      → AnswersOne IsAnswer line text
+  named_answer v name text (inl is) named e = absurd (no_name v name is named)
+  named_answer v name text (inr right) named e = record { answer = name; right = answers v name right named; is = e }
 
-  -- what `printed` gives of a verdict: its name and the end of a line, or nothing where it has no name
-  abbrev Printed : Result Bool JudgeError → Option (Bor (List ℕ)) → Type 0
-  Printed verdict o = MatchOption (name_of verdict) (IsNone o) (λ n. IsSomeAnd o (λ t. t.now ≡ n ++ 10 ∷ []))
+  printed_name : (v : V) (name : Option (List ℕ)) (text : Bor (List ℕ)) → (v ≡ memory) ⊎ IsRight v → name_of_it v ≡ name
+      → Printed name (Some text) → AnswersOne IsAnswer line text.now
+  printed_name v None text right named h = cc
+  printed_name v (Some name) text right named h = named_answer v name text.now right named h
 
-  -- what is printed of the right answer to a pair answers the line
-  printed_answer : (line k d : List ℕ) (verdict : Result Bool JudgeError) (o : Option (Bor (List ℕ))) (text : Bor (List ℕ))
-      → IsPair line k d → (verdict ≡ Err OutOfMemory) ⊎ RightBy draft k d verdict → Printed verdict o → o ≡ Some text
-      → AnswersOne (LineAnswerBy draft) line text.now
-  printed_answer line k d verdict o text pair right printed e =
-      printed_name line k d verdict (name_of verdict) text pair right refl (subst (λ p. Printed verdict p) e printed)
+  printed_text : (v : V) (o : Option (Bor (List ℕ))) (text : Bor (List ℕ)) → (v ≡ memory) ⊎ IsRight v → Printed (name_of_it v) o
+      → o ≡ Some text → AnswersOne IsAnswer line text.now
+  printed_text v o text right printed e =
+      printed_name v (name_of_it v) text right refl (subst (λ p. Printed (name_of_it v) p) e printed)
 
-  -- the same of the result that the command gives
-  pub printed_answers : {E : Type 0} (line k d : List ℕ) (verdict : Result Bool JudgeError) (o : Option (Bor (List ℕ)))
-      (result : Result (Bor (List ℕ)) E) → IsPair line k d → (verdict ≡ Err OutOfMemory) ⊎ RightBy draft k d verdict → Printed verdict o
-      → o ≡ result_ok result → IfOk result (λ text. AnswersOne (LineAnswerBy draft) line text.now)
-  printed_answers line k d verdict o (Ok text) pair right printed e = printed_answer line k d verdict o text pair right printed e
-  printed_answers line k d verdict o (Err error) pair right printed e = tt
+  -- what is printed of a right answer answers the line
+  pub printed_answer : {E : Type 0} (v : V) (o : Option (Bor (List ℕ))) (result : Result (Bor (List ℕ)) E) → (v ≡ memory) ⊎ IsRight v
+      → Printed (name_of_it v) o → o ≡ result_ok result → IfOk result (λ text. AnswersOne IsAnswer line text.now)
+  printed_answer v o (Ok text) right printed e = printed_text v o text right printed e
+  printed_answer v o (Err error) right printed e = tt
+
+-- what is printed of the right answer to a pair answers its line
+pub printed_answers : (draft : Draft) {E : Type 0} (line k d : List ℕ) (verdict : Result Bool JudgeError) (o : Option (Bor (List ℕ)))
+    (result : Result (Bor (List ℕ)) E) → IsPair line k d → (verdict ≡ Err OutOfMemory) ⊎ RightBy draft k d verdict
+    → Printed (name_of verdict) o → o ≡ result_ok result → IfOk result (λ text. AnswersOne (LineAnswerBy draft) line text.now)
+printed_answers draft line k d verdict o result pair =
+    printed_answer name_of (Err OutOfMemory) (RightBy draft k d) (LineAnswerBy draft) line refl
+    (λ v name right named. inl (record { keywords = k; document = d; verdict = v; pair = pair; right = right; named = named }))
+    verdict o result

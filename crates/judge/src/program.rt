@@ -17,8 +17,8 @@ use line_program::{Sink, Source, Status, answer_lines};
 use std::alloc::Global;
 
 /// Does what the words ask for: with no word, or with the word `check`, it judges the pair of each line that the source has left; with
-/// `check4` it judges by draft 4; with `encode` it gives the bytes of the JSON text of each; with `make` and a number from 1 to 100000 it judges that many pairs of its own,
-/// and counts them.
+/// `check4` it judges by draft 4; with `encode` it gives the bytes of the JSON text of each; with `make` and a number from 1 to 100000
+/// it judges that many pairs of its own, and counts them.
 ///
 /// It reads 4,096 bytes at a time, answers each line that ended before it reads again, and hands each answer with the
 /// end of a line to the sink in one piece, and then what the sink left of it. It keeps one line in memory. Where it stops

@@ -1,8 +1,9 @@
 //! Answers the lines of standard input on standard output.
 //!
-//! With no word, or with the word `check`, it judges the pair of each line, and with `check4` by draft 4. With `encode` it gives the bytes
-//! of the JSON text of each, in hex. With `make` and a number it reads nothing, and judges and counts that many pairs of its own. It ends with the code of the
-//! run's status; where the words cannot be got from the system, with 7 for want of memory and else with 1, before anything is read.
+//! With no word, or with the word `check`, it judges the pair of each line, and with `check4` by draft 4. With `encode` it gives the
+//! bytes of the JSON text of each, in hex. With `make` and a number it reads nothing, and judges and counts that many pairs of its own.
+//! It ends with the code of the run's status; where the words cannot be got from the system, with 7 for want of memory and else with 1,
+//! before anything is read.
 #![tactic(auto)]
 
 ghost use Rattle.std.specs.Prelude.{◌≡◌, map, string_bytes, IfErr, IfOk};

@@ -41,8 +41,6 @@ pub mod laws;
 mod literal;
 mod literal_pattern;
 mod pattern_analysis;
-#[cfg(test)]
-mod tests;
 mod text;
 mod validity;
 mod whitespace;

@@ -19,6 +19,7 @@ mod nested;
 mod nodes;
 mod numbers;
 mod patterns;
+mod regexes;
 mod runs;
 mod rust_patterns;
 mod slow;
@@ -57,6 +58,8 @@ fn answer(alloc: Global, line: &str) -> Option<String> {
         "run" => runs::run_row(alloc, rest),
         "types" => types::types(alloc, rest),
         "pattern" => patterns::pattern(alloc, rest),
+        "regex" => regexes::regex(alloc, rest),
+        "long" => regexes::long(alloc, rest),
         "rust" => rust_patterns::rust(alloc, rest),
         "errors" => names::errors(alloc),
         _ => None,

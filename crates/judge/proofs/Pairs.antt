@@ -1,6 +1,6 @@
 -- Which lines are pairs of hex texts.
 use Rattle.std.proofs.Common.{Bor, ◌≡◌, ◌⊎◌, inl, inr, ℕ, List, [], ◌∷◌, ◌++◌, Bool, Option, Some, None, Result, Ok, Err, refl, sym, ap, ◌∙◌, subst}
-use Rattle.std.specs.Prelude.{IfOk, IsNone, IsSomeAnd, MatchOption}
+use Rattle.std.specs.Prelude.{IfOk}
 use Rattle.std.specs.Result.{result_ok}
 use Rattle.jsonb.specs.HexText.{IsHexText}
 use Rattle.jsonb.proofs.HexTexts.{pair_no_space}
@@ -11,6 +11,7 @@ use Rattle.judge.specs.Answers.{IsPair, LineAnswerBy, name_of}
 use Rattle.line_program.specs.Answers.{AnswersOne}
 use Rattle.line_program.specs.Lines.{Lacks}
 use Rattle.flat_keywords.specs.Right.{RightBy}
+use Rattle.line_program.proofs.Printed.{Printed, printed_answer}
 use Rattle.line_program.proofs.Texts.{Lacks-cut, cut_once}
 
 -- a hex text has no space
@@ -34,39 +35,7 @@ parts_once line first second k d e lacks pair =
 pub no_parts : (line k d : List ℕ) → Lacks 32 line → IsPair line k d → ⊥
 no_parts line k d lacks pair = Lacks-cut 32 pair.first pair.second (subst (λ t. Lacks 32 t) pair.whole lacks)
 
--- ---- what is printed of an answer
-
--- its name and the end of a line, or nothing where it has no name
-abbrev pub Printed : Option (List ℕ) → Option (Bor (List ℕ)) → Type 0
-Printed name o = MatchOption name (IsNone o) (λ n. IsSomeAnd o (λ t. t.now ≡ n ++ 10 ∷ []))
-
--- of some answers one is want of memory, and has no name; the name of each right one answers the line
-module _ {V : Type 0} (name_of_it : V → Option (List ℕ)) (memory : V) (IsRight : V → Type 0) (IsAnswer : List ℕ → List ℕ → Type 0)
-    (line : List ℕ) (silent : name_of_it memory ≡ None)
-    (answers : (v : V) (name : List ℕ) → IsRight v → name_of_it v ≡ Some name → IsAnswer line name) where
-  no_name : (v : V) (name : List ℕ) → v ≡ memory → name_of_it v ≡ Some name → ⊥
-  no_name v name is named = let none : name_of_it v ≡ None = ap name_of_it is ∙ silent in cc
-
-  named_answer : (v : V) (name text : List ℕ) → (v ≡ memory) ⊎ IsRight v → name_of_it v ≡ Some name → text ≡ name ++ 10 ∷ []
-      → AnswersOne IsAnswer line text
-  named_answer v name text (inl is) named e = absurd (no_name v name is named)
-  named_answer v name text (inr right) named e = record { answer = name; right = answers v name right named; is = e }
-
-  printed_name : (v : V) (name : Option (List ℕ)) (text : Bor (List ℕ)) → (v ≡ memory) ⊎ IsRight v → name_of_it v ≡ name
-      → Printed name (Some text) → AnswersOne IsAnswer line text.now
-  printed_name v None text right named h = cc
-  printed_name v (Some name) text right named h = named_answer v name text.now right named h
-
-  printed_text : (v : V) (o : Option (Bor (List ℕ))) (text : Bor (List ℕ)) → (v ≡ memory) ⊎ IsRight v → Printed (name_of_it v) o
-      → o ≡ Some text → AnswersOne IsAnswer line text.now
-  printed_text v o text right printed e =
-      printed_name v (name_of_it v) text right refl (subst (λ p. Printed (name_of_it v) p) e printed)
-
-  -- what is printed of a right answer answers the line
-  pub printed_answer : {E : Type 0} (v : V) (o : Option (Bor (List ℕ))) (result : Result (Bor (List ℕ)) E) → (v ≡ memory) ⊎ IsRight v
-      → Printed (name_of_it v) o → o ≡ result_ok result → IfOk result (λ text. AnswersOne IsAnswer line text.now)
-  printed_answer v o (Ok text) right printed e = printed_text v o text right printed e
-  printed_answer v o (Err error) right printed e = tt
+-- ---- the answer to a pair
 
 -- what is printed of the right answer to a pair answers its line
 pub printed_answers : (draft : Draft) {E : Type 0} (line k d : List ℕ) (verdict : Result Bool JudgeError) (o : Option (Bor (List ℕ)))

@@ -1,5 +1,5 @@
 use Rattle.std.proofs.Common.{codes, Err, inl, inr, refl}
-use Rattle.judge.proofs.Pairs.{printed_answer}
+use Rattle.line_program.proofs.Printed.{printed_answer}
 use Rattle.judge_tree.specs.Right.{Right}
 use Rattle.judge_tree.specs.declared.tree_error.TreeError.TheVariants.{OutOfMemory}
 use Rattle.judge_tree_main.specs.Answers.{LineAnswer, name_of}

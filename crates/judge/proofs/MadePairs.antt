@@ -1,5 +1,5 @@
 -- The pairs of `make`.
-use Rattle.std.proofs.Common.{rules, ◌≡◌, ◌⊎◌, inl, inr, Bool, Option, Some, None, ℕ, List, [], ◌∷◌, ◌++◌, pos, sym, subst, ◌∙◌, append_assoc}
+use Rattle.std.proofs.Common.{◌≡◌, ◌⊎◌, inl, inr, Bool, Option, Some, None, ℕ, List, [], ◌∷◌, ◌++◌, pos, sym, subst, ◌∙◌, append_assoc}
 use Rattle.std.specs.Prelude.{◌↔◌, IsTrue, Result, Ok, Err, codes}
 use Rattle.json_exact.specs.Serde.{number_tree, whole}
 use Rattle.json_exact.specs.Trees.{tree}

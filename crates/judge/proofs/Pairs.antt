@@ -1,5 +1,5 @@
 -- Which lines are pairs of hex texts.
-use Rattle.std.proofs.Common.{Bor, ◌≡◌, ◌⊎◌, inl, inr, ℕ, List, [], ◌∷◌, ◌++◌, Bool, Option, Some, None, Result, Ok, Err, refl, sym, ap, ◌∙◌, subst}
+use Rattle.std.proofs.Common.{Bor, ◌≡◌, ◌⊎◌, inl, ℕ, List, [], ◌∷◌, ◌++◌, Bool, Option, Result, Err, refl, sym, ◌∙◌, subst}
 use Rattle.std.specs.Prelude.{IfOk}
 use Rattle.std.specs.Result.{result_ok}
 use Rattle.jsonb.specs.HexText.{IsHexText}

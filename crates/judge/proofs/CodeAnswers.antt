@@ -17,7 +17,7 @@ use Rattle.serde_json.specs.Read.{read}
 use Rattle.serde_json.specs.Written.{has_float}
 use Rattle.judge.specs.Codes.{CodeAnswer}
 use Rattle.literal_patterns.proofs.DecidedPatterns.{Decided}
-use Rattle.judge.proofs.Decided.{decided_both, decided_less}
+use Rattle.flat_keywords.proofs.Decided.{decided_both, decided_less}
 
 -- ---- what is decided
 

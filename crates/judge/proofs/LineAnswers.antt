@@ -8,16 +8,16 @@ use Rattle.jsonb.specs.Root.{IsRead}
 use Rattle.jsonb.specs.declared.error.JsonbError.{JsonbError}
 use Rattle.jsonb.specs.declared.error.JsonbError.TheVariants as read
 use Rattle.judge.specs.Answers.{IsJudged, IsPair, LineAnswerBy, fault_name, name_of}
-use Rattle.judge.specs.Lines.{Lacks}
-use Rattle.judge.specs.Right.{Answer, RightBy, RightFrom, RightOf, RightWith}
-use Rattle.judge.specs.Validity.{HasFaultBy}
-use Rattle.judge.specs.declared.draft.Draft.{Draft}
-use Rattle.judge.specs.declared.errors.JudgeError.TheVariants.{Keywords, NotAnObject, UnknownKeyword, BadKeyword, BadPattern, PatternNotLiteral, TooDeep, Document, OutOfMemory}
-use Rattle.judge.specs.declared.errors.KeywordError.{KeywordError}
-use Rattle.judge.specs.declared.errors.KeywordError.TheVariants as keyword
-use Rattle.judge.proofs.OneAnswer.{one_answer}
+use Rattle.line_program.specs.Lines.{Lacks}
+use Rattle.flat_keywords.specs.Right.{Answer, RightBy, RightFrom, RightOf, RightWith}
+use Rattle.flat_keywords.specs.Validity.{HasFaultBy}
+use Rattle.flat_keywords.specs.declared.draft.Draft.{Draft}
+use Rattle.flat_keywords.specs.declared.errors.JudgeError.TheVariants.{Keywords, NotAnObject, UnknownKeyword, BadKeyword, BadPattern, PatternNotLiteral, TooDeep, Document, OutOfMemory}
+use Rattle.flat_keywords.specs.declared.errors.KeywordError.{KeywordError}
+use Rattle.flat_keywords.specs.declared.errors.KeywordError.TheVariants as keyword
+use Rattle.flat_keywords.proofs.OneAnswer.{one_answer}
 use Rattle.judge.proofs.Pairs.{hex_lacks, no_parts, parts_once}
-use Rattle.judge.proofs.SomeAnswer.{some_answer}
+use Rattle.flat_keywords.proofs.SomeAnswer.{some_answer}
 
 -- ---- pairs
 

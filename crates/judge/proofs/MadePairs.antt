@@ -1,5 +1,5 @@
 -- The pairs of `make`.
-use Rattle.std.proofs.Common.{rules, ◌≡◌, ◌⊎◌, inl, inr, Bool, Option, Some, None, ℕ, List, [], ◌∷◌, ◌++◌, pos, sym, subst, ◌∙◌, append_assoc}
+use Rattle.std.proofs.Common.{◌≡◌, ◌⊎◌, inl, inr, Bool, Option, Some, None, ℕ, List, [], ◌∷◌, ◌++◌, pos, sym, subst, ◌∙◌, append_assoc}
 use Rattle.std.specs.Prelude.{◌↔◌, IsTrue, Result, Ok, Err, codes}
 use Rattle.json_exact.specs.Serde.{number_tree, whole}
 use Rattle.json_exact.specs.Trees.{tree}
@@ -13,12 +13,12 @@ use Rattle.jsonb_layout.proofs.Containers.{one_tree}
 use Rattle.jsonb_layout.specs.Stands.{Stands}
 use Rattle.serde_json.specs.Data as serde
 use Rattle.json_semantics.proofs.ConformanceLaws.{tree_number}
-use Rattle.judge.specs.Right.{Answer, Right, RightBy, RightFrom, RightOf, RightWith, document_error, keyword_error, keywords_error}
-use Rattle.judge.specs.Verdict.{Verdict}
-use Rattle.judge.specs.declared.draft.Draft.TheVariants as drafts
-use Rattle.judge.specs.declared.errors.JudgeError.{JudgeError}
-use Rattle.judge.specs.declared.errors.JudgeError.TheVariants.{OutOfMemory}
-use Rattle.judge.specs.declared.errors.KeywordError.{KeywordError}
+use Rattle.flat_keywords.specs.Right.{Answer, Right, RightBy, RightFrom, RightOf, RightWith, document_error, keyword_error, keywords_error}
+use Rattle.flat_keywords.specs.Verdict.{Verdict}
+use Rattle.flat_keywords.specs.declared.draft.Draft.TheVariants as drafts
+use Rattle.flat_keywords.specs.declared.errors.JudgeError.{JudgeError}
+use Rattle.flat_keywords.specs.declared.errors.JudgeError.TheVariants.{OutOfMemory}
+use Rattle.flat_keywords.specs.declared.errors.KeywordError.{KeywordError}
 
 -- ---- values and texts
 

@@ -1,17 +1,18 @@
 -- Which lines are pairs of hex texts.
-use Rattle.std.proofs.Common.{Bor, ◌≡◌, ◌⊎◌, inl, inr, ℕ, List, [], ◌∷◌, ◌++◌, Bool, Option, Some, None, Result, Ok, Err, refl, sym, ap, ◌∙◌, subst}
-use Rattle.std.specs.Prelude.{IfOk, IsNone, IsSomeAnd, MatchOption}
+use Rattle.std.proofs.Common.{Bor, ◌≡◌, ◌⊎◌, inl, ℕ, List, [], ◌∷◌, ◌++◌, Bool, Option, Result, Err, refl, sym, ◌∙◌, subst}
+use Rattle.std.specs.Prelude.{IfOk}
 use Rattle.std.specs.Result.{result_ok}
 use Rattle.jsonb.specs.HexText.{IsHexText}
 use Rattle.jsonb.proofs.HexTexts.{pair_no_space}
-use Rattle.judge.specs.declared.draft.Draft.{Draft}
-use Rattle.judge.specs.declared.errors.JudgeError.{JudgeError}
-use Rattle.judge.specs.declared.errors.JudgeError.TheVariants.{OutOfMemory}
-use Rattle.judge.specs.Answers.{IsJudged, IsPair, LineAnswerBy, name_of}
-use Rattle.judge.specs.inner.Feeding.{AnswersOne}
-use Rattle.judge.specs.Lines.{Lacks}
-use Rattle.judge.specs.Right.{RightBy}
-use Rattle.judge.proofs.Texts.{Lacks-cut, cut_once}
+use Rattle.flat_keywords.specs.declared.draft.Draft.{Draft}
+use Rattle.flat_keywords.specs.declared.errors.JudgeError.{JudgeError}
+use Rattle.flat_keywords.specs.declared.errors.JudgeError.TheVariants.{OutOfMemory}
+use Rattle.judge.specs.Answers.{IsPair, LineAnswerBy, name_of}
+use Rattle.line_program.specs.Answers.{AnswersOne}
+use Rattle.line_program.specs.Lines.{Lacks}
+use Rattle.flat_keywords.specs.Right.{RightBy}
+use Rattle.line_program.proofs.Printed.{Printed, printed_answer}
+use Rattle.line_program.proofs.Texts.{Lacks-cut, cut_once}
 
 -- a hex text has no space
 pub hex_lacks : (text bytes : List ℕ) → IsHexText text bytes → Lacks 32 text
@@ -36,40 +37,11 @@ no_parts line k d lacks pair = Lacks-cut 32 pair.first pair.second (subst (λ t.
 
 -- ---- the answer to a pair
 
-no_name : (verdict : Result Bool JudgeError) (name : List ℕ) → verdict ≡ Err OutOfMemory → name_of verdict ≡ Some name → ⊥
-no_name verdict name memory named = let none : name_of verdict ≡ None = ap name_of memory in cc
-
-module _ (draft : Draft) where
-  named_answer : (line k d : List ℕ) (verdict : Result Bool JudgeError) (name text : List ℕ) → IsPair line k d
-      → (verdict ≡ Err OutOfMemory) ⊎ RightBy draft k d verdict → name_of verdict ≡ Some name → text ≡ name ++ 10 ∷ []
-      → AnswersOne (LineAnswerBy draft) line text
-  named_answer line k d verdict name text pair (inl memory) named is = absurd (no_name verdict name memory named)
-  named_answer line k d verdict name text pair (inr right) named is =
-      let judged : IsJudged draft line name =
-      record { keywords = k; document = d; verdict = verdict; pair = pair; right = right; named = named } in
-      record { answer = name; right = inl judged; is = is }
-
-  printed_name : (line k d : List ℕ) (verdict : Result Bool JudgeError) (name : Option (List ℕ)) (text : Bor (List ℕ)) → IsPair line k d
-      → (verdict ≡ Err OutOfMemory) ⊎ RightBy draft k d verdict → name_of verdict ≡ name
-      → MatchOption name (IsNone (Some text)) (λ n. IsSomeAnd (Some text) (λ t. t.now ≡ n ++ 10 ∷ []))
-      → AnswersOne (LineAnswerBy draft) line text.now
-  printed_name line k d verdict None text pair right named h = cc
-  printed_name line k d verdict (Some name) text pair right named h = named_answer line k d verdict name text.now pair right named h
-
-  -- what `printed` gives of a verdict: its name and the end of a line, or nothing where it has no name
-  abbrev Printed : Result Bool JudgeError → Option (Bor (List ℕ)) → Type 0
-  Printed verdict o = MatchOption (name_of verdict) (IsNone o) (λ n. IsSomeAnd o (λ t. t.now ≡ n ++ 10 ∷ []))
-
-  -- what is printed of the right answer to a pair answers the line
-  printed_answer : (line k d : List ℕ) (verdict : Result Bool JudgeError) (o : Option (Bor (List ℕ))) (text : Bor (List ℕ))
-      → IsPair line k d → (verdict ≡ Err OutOfMemory) ⊎ RightBy draft k d verdict → Printed verdict o → o ≡ Some text
-      → AnswersOne (LineAnswerBy draft) line text.now
-  printed_answer line k d verdict o text pair right printed e =
-      printed_name line k d verdict (name_of verdict) text pair right refl (subst (λ p. Printed verdict p) e printed)
-
-  -- the same of the result that the command gives
-  pub printed_answers : {E : Type 0} (line k d : List ℕ) (verdict : Result Bool JudgeError) (o : Option (Bor (List ℕ)))
-      (result : Result (Bor (List ℕ)) E) → IsPair line k d → (verdict ≡ Err OutOfMemory) ⊎ RightBy draft k d verdict → Printed verdict o
-      → o ≡ result_ok result → IfOk result (λ text. AnswersOne (LineAnswerBy draft) line text.now)
-  printed_answers line k d verdict o (Ok text) pair right printed e = printed_answer line k d verdict o text pair right printed e
-  printed_answers line k d verdict o (Err error) pair right printed e = tt
+-- what is printed of the right answer to a pair answers its line
+pub printed_answers : (draft : Draft) {E : Type 0} (line k d : List ℕ) (verdict : Result Bool JudgeError) (o : Option (Bor (List ℕ)))
+    (result : Result (Bor (List ℕ)) E) → IsPair line k d → (verdict ≡ Err OutOfMemory) ⊎ RightBy draft k d verdict
+    → Printed (name_of verdict) o → o ≡ result_ok result → IfOk result (λ text. AnswersOne (LineAnswerBy draft) line text.now)
+printed_answers draft line k d verdict o result pair =
+    printed_answer name_of (Err OutOfMemory) (RightBy draft k d) (LineAnswerBy draft) line refl
+    (λ v name right named. inl (record { keywords = k; document = d; verdict = v; pair = pair; right = right; named = named }))
+    verdict o result

@@ -4,8 +4,8 @@ use Rattle.json_exact.specs.Serde.{Writes, tree_of}
 use Rattle.json_model.specs.Tree.{Tree}
 use Rattle.serde_json.specs.Data.{Data}
 use Rattle.judge.specs.Made.{AreValid, IsMadeText, IsSummary, IsSummaryCutOff, summary_text}
-use Rattle.judge.specs.declared.status.Status.{Status}
-use Rattle.judge.specs.declared.status.Status.TheVariants.{Done, BadWords, ReadFault, WriteFault, LineTooLong, InputTooLong, OutOfMemory}
+use Rattle.line_program.specs.declared.status.Status.{Status}
+use Rattle.line_program.specs.declared.status.Status.TheVariants.{Done, BadWords, ReadFault, WriteFault, LineTooLong, InputTooLong, OutOfMemory}
 
 -- a text writes one tree
 one_written : (text : List ℕ) (t u : Tree) → Writes text t → Writes text u → t ≡ u

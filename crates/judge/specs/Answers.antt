@@ -1,13 +1,13 @@
 -- What answers a line. This project's own.
-use Rattle.std.specs.Prelude.{◌≡◌, ◌⊎◌, ℕ, Bool, true, false, List, [], ◌∷◌, ◌++◌, codes, Option, Some, None, Result, Ok, Err}
+use Rattle.std.specs.Prelude.{◌≡◌, ◌⊎◌, ℕ, Bool, true, false, List, ◌∷◌, ◌++◌, codes, Option, Some, None, Result, Ok, Err}
 use Rattle.jsonb.specs.HexText.{IsHexText}
-use Rattle.judge.specs.Right.{RightBy}
-use Rattle.judge.specs.declared.draft.Draft.{Draft}
-use Rattle.judge.specs.declared.draft.Draft.TheVariants as drafts
-use Rattle.judge.specs.declared.errors.Fault.{Fault}
-use Rattle.judge.specs.declared.errors.Fault.TheVariants.{Malformed, NotText, NumberTooWide}
-use Rattle.judge.specs.declared.errors.JudgeError.{JudgeError}
-use Rattle.judge.specs.declared.errors.JudgeError.TheVariants.{Keywords, NotAnObject, UnknownKeyword, BadKeyword, BadPattern, PatternNotLiteral, TooDeep, Document, OutOfMemory}
+use Rattle.flat_keywords.specs.Right.{RightBy}
+use Rattle.flat_keywords.specs.declared.draft.Draft.{Draft}
+use Rattle.flat_keywords.specs.declared.draft.Draft.TheVariants as drafts
+use Rattle.flat_keywords.specs.declared.errors.Fault.{Fault}
+use Rattle.flat_keywords.specs.declared.errors.Fault.TheVariants.{Malformed, NotText, NumberTooWide}
+use Rattle.flat_keywords.specs.declared.errors.JudgeError.{JudgeError}
+use Rattle.flat_keywords.specs.declared.errors.JudgeError.TheVariants.{Keywords, NotAnObject, UnknownKeyword, BadKeyword, BadPattern, PatternNotLiteral, TooDeep, Document, OutOfMemory}
 
 -- the line is two hex texts with one space between
 pub record IsPair (line keywords document : List ℕ) : Type 0 where
@@ -57,10 +57,3 @@ LineAnswerBy draft line answer = IsJudged draft line answer ⊎ IsBadLine line a
 -- the answer to a line of the command `check`
 abbrev pub LineAnswer : List ℕ → List ℕ → Type 0
 LineAnswer = LineAnswerBy drafts.Draft2020
-
--- the text is an answer to each of the lines, in their order, each with the end of a line
-abbrev pub Answers : (List ℕ → List ℕ → Type 0) → List (List ℕ) → List ℕ → Type 0
-Answers IsAnswer [] text = text ≡ []
-Answers IsAnswer (line ∷ lines) text =
-    (answer : List ℕ) × (rest : List ℕ) × IsAnswer line answer × Answers IsAnswer lines rest
-    × (text ≡ answer ++ 10 ∷ rest)

@@ -5,9 +5,9 @@ use Rattle.std.specs.Io.KnownBytes.{Appends}
 use Rattle.json_exact.specs.Serde.{Writes, whole}
 use Rattle.json_model.specs.Parts.{elements_from}
 use Rattle.json_model.specs.Tree.{Tree, array}
-use Rattle.judge.specs.Verdict.{Verdict}
-use Rattle.judge.specs.declared.status.Status.{Status}
-use Rattle.judge.specs.declared.status.Status.TheVariants.{Done, BadWords, ReadFault, WriteFault, LineTooLong, InputTooLong, OutOfMemory}
+use Rattle.flat_keywords.specs.Verdict.{Verdict}
+use Rattle.line_program.specs.declared.status.Status.{Status}
+use Rattle.line_program.specs.declared.status.Status.TheVariants.{Done, BadWords, ReadFault, WriteFault, LineTooLong, InputTooLong, OutOfMemory}
 
 -- ---- the pairs
 

@@ -1,5 +1,2 @@
--- What a user need not believe: what compiled checks keep, and what the code does from step to step. The files beside this
--- folder say what the answers are.
-pub mod Passes
-pub mod Feeding
+-- What a user need not believe: what the code reads of the words of a command line. The files beside this folder say what a run is.
 pub mod Requests

@@ -2,27 +2,11 @@
 ghost use Rattle.std.specs.Prelude.{◌≡◌, ◌∷◌, ◌++◌, [], ℕ, List, IfOk, IsNone, IsSomeAnd, MatchOption};
 ghost use Rattle.jsonb.specs.HexText.{IsHexText};
 ghost use Rattle.judge.specs.Answers.{IsPair, LineAnswerBy, name_of};
-ghost use Rattle.judge.specs.inner.Feeding.{AnswersOne};
 
-use crate::cut::cut_at;
-use crate::{Draft, Fault, JudgeError, judge_draft};
+use flat_keywords::{Draft, Fault, JudgeError, judge_draft};
 use jsonb::encode::{HexError, decode_hex};
+use line_program::{Command, cut_at};
 use std::alloc::{AllocError, Global};
-use std::convert::AsSlice;
-
-// A command of the program, which answers the input line by line.
-pub(crate) trait Command {
-    /// Which texts answer a line.
-    ghost is_answer: { Self → List ℕ → List ℕ → Type 0 };
-
-    /// An answer, which lends its bytes.
-    type Answer: AsSlice<u8> + Drop;
-
-    /// The answer to a line, with the end of a line.
-    fn answer(&self, alloc: Global, line: &[u8]) -> Result<Self::Answer, AllocError>
-        ensures { IfOk result (λ text.
-            AnswersOne (is_answer self.now) line.now (Self.Answer.items text)) };
-}
 
 // The commands `check` and `check4`, which judge the two slices of a line by their draft.
 pub(crate) struct CheckCommand {
@@ -42,8 +26,9 @@ impl Command for CheckCommand {
     }
 }
 
-// The bytes of the two hex texts of a line.
-fn read_pair(alloc: Global, line: &[u8]) -> Result<Option<(Vec<u8>, Vec<u8>)>, AllocError>
+/// The bytes of the two hex texts of a line, with one space between; None where the line is something else. An error is want of
+/// memory.
+pub fn read_pair(alloc: Global, line: &[u8]) -> Result<Option<(Vec<u8>, Vec<u8>)>, AllocError>
     ensures { IfOk result (λ pair. MatchOption pair
         ((keywords document : List ℕ) → IsPair line.now keywords document → ⊥)
         (λ both. IsPair line.now both.0.items both.1.items)) }

@@ -2,9 +2,9 @@
 ghost use Rattle.std.specs.Prelude.{string_bytes, IfOk};
 ghost use Rattle.judge.specs.Codes.{CodeAnswer};
 
-use crate::answer::Command;
 use json_exact::{JsonTextError, Value};
 use jsonb::encode::{EncodeError, encode, to_hex};
+use line_program::Command;
 use std::alloc::{AllocError, Global};
 
 // The command `encode`, which gives the bytes of the JSON text of a line, in hex.

@@ -1,23 +1,6 @@
-//! Is a document valid under a keyword object, by JSON Schema 2020-12? Both are PostgreSQL `jsonb` bytes, or values in
-//! memory. And the program that answers this for lines.
+//! Verdicts for lines: [`run`] is the program. And the calls that give them, which `flat_keywords` has.
 //!
-//! [`judge`] answers for two slices. For example the keywords `01000020 04000080 07000000 74797065 696e7465676572`, in hex,
-//! are `{"type":"integer"}`, and the document `01000050 08000090 20000000 8080 0100` is 1.0: it is valid, since 1.0 is an
-//! integer. Both are checked completely, even parts that no keyword looks at; the document only if the keywords have no fault. What
-//! is no JSON tree or no keyword object is refused by a [`JudgeError`].
-//!
-//! [`judge_values`] answers for two `json_exact::Value`s. Both stand on [`Checks`], a keyword object that is compiled once and
-//! checks many documents, whatever holds them: [`Checks::compile`] and [`Checks::check`] take each `json_traits::Node`. Why a
-//! keyword object is refused, and mostly where, is a [`KeywordError`]. Nodes of one tree get one verdict ([`laws::one_verdict`]).
-//!
-//! The keywords are `type`, `enum`, `const`, the four bounds of numbers, the least and greatest counts of code points, elements and
-//! members, `uniqueItems`, `pattern` and `required`, and the eight that ask nothing of a document, as `title`. A `pattern` is taken where it is literal, as `^x-` and `^(a|b)$`:
-//! `jsonschema_regex` says which those are.
-//!
-//! [`judge_draft`] and [`Checks::compile_draft`] take keywords of [`Draft`] 4 too, where 1.0 is no integer and `exclusiveMinimum` is a truth
-//! value.
-//!
-//! [`run`] is the program. With no words it reads lines from a [`Source`], judges each, and writes one line of answer for each to a
+//! With no words [`run`] reads lines from a [`Source`], judges each by [`judge`], and writes one line of answer for each to a
 //! [`Sink`]. A line is two hex texts with one space between, the keywords and the document. For example the lines
 //!
 //! ```text
@@ -32,50 +15,26 @@
 //! bad line
 //! ```
 //!
-//! With the word `check4` each pair is judged by draft 4. With the word `encode` a line is JSON text, as `null`, and its answer is the hex of the bytes that stand for it, as
-//! `01000050000000c0`, or why there are none. With `make` and a number it reads nothing: it judges that many pairs of its own, and
-//! writes how many are valid.
+//! With the word `check4` each pair is judged by draft 4. With the word `encode` a line is JSON text, as `null`, and its answer is
+//! the hex of the bytes that stand for it, as `01000050000000c0`, or why there are none. With `make` and a number it reads nothing:
+//! it judges that many pairs of its own, and writes how many are valid.
 //!
-//! A line has at most 2^24 bytes, and an input of fewer than 2^48 bytes is never too long. A run ends with a [`Status`], and
-//! its contract says what was taken and written at each.
+//! The loop over lines is that of `line_program`: a line has at most 2^24 bytes, and an input of fewer than 2^48 bytes is never too
+//! long. A run ends with a [`Status`], and its contract says what was taken and written at each.
 #![tactic(auto)]
 
 mod answer;
-mod bounds;
-mod checks;
 mod code;
-mod cut;
-mod draft;
-mod errors;
-mod kept;
-mod keyword;
-pub mod laws;
-mod limits;
-mod lines;
 mod make;
-mod meets;
-mod memory;
-mod names;
-mod narrow;
-mod patterns;
 mod program;
-mod read;
-mod required;
 pub mod run_laws;
-mod status;
-mod steady;
-mod stream;
-mod values;
-mod verdict;
 mod words;
 
-pub use checks::Checks;
-pub use draft::Draft;
-pub use errors::{Fault, JudgeError, KeywordError};
-pub use memory::{MemorySink, MemorySource};
+pub use answer::read_pair;
+pub use flat_keywords::{
+    Checks, Draft, Fault, JudgeError, KeywordError, judge, judge_draft, judge_values, laws,
+};
+pub use line_program::{
+    Failed, MemorySink, MemorySource, Sink, SinkError, Source, Status, SteadySink, SteadySource,
+};
 pub use program::run;
-pub use status::Status;
-pub use steady::{SteadySink, SteadySource};
-pub use stream::{Failed, Sink, SinkError, Source};
-pub use values::judge_values;
-pub use verdict::{judge, judge_draft};

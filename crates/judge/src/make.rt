@@ -4,14 +4,14 @@ ghost use Rattle.json_exact.specs.Trees.{tree};
 ghost use Rattle.json_exact.specs.Serde.{Writes, whole as whole_tree};
 ghost use Rattle.json_model.specs.Tree.{Tree};
 ghost use Rattle.jsonb_layout.specs.Stands.{Stands};
-ghost use Rattle.judge.specs.Faults.{CountsOnce, Rose};
+ghost use Rattle.line_program.specs.Faults.{CountsOnce, Rose};
 ghost use Rattle.judge.specs.Made.{AreValid, Made, document, keywords_text, summary_text};
-ghost use Rattle.judge.specs.Verdict.{Verdict};
+ghost use Rattle.flat_keywords.specs.Verdict.{Verdict};
 
-use crate::lines::put_all;
-use crate::{Sink, SinkError, Status, judge};
+use flat_keywords::judge;
 use json_exact::{Decimal, Number, Value};
 use jsonb::encode::encode;
+use line_program::{Sink, SinkError, Status, put_all};
 use std::alloc::{AllocError, Global};
 
 const KEYWORDS: &str = "{\"type\":\"array\",\"maxItems\":50,\"uniqueItems\":true}";

@@ -1,27 +1,24 @@
 //! The program's run.
-ghost use Rattle.std.specs.Prelude.{◌≡◌, ◌≢◌, ◌⊎◌, ◌↔◌, ◌<◌, ◌^◌, ℕ, List, Some, length, map, string_bytes, IsTrue};
+ghost use Rattle.std.specs.Prelude.{◌≡◌, ◌⊎◌, ◌↔◌, ◌<◌, ◌^◌, ℕ, List, Some, length, map, string_bytes, IsTrue};
 ghost use Rattle.judge.specs.Answers.{LineAnswer, LineAnswerBy};
 ghost use Rattle.judge.specs.Codes.{CodeAnswer};
-ghost use Rattle.judge.specs.Faults.{CountsOnce, Rose};
-ghost use Rattle.judge.specs.Lines.{AreShort, lines_of};
+ghost use Rattle.line_program.specs.Faults.{CountsOnce, Rose};
+ghost use Rattle.line_program.specs.Lines.{AreShort, lines_of};
 ghost use Rattle.judge.specs.Made.{Made};
-ghost use Rattle.judge.specs.Ran.{Ran};
+ghost use Rattle.line_program.specs.Ran.{Ran};
 ghost use Rattle.judge.specs.Words.{AreGood, IsCheck, IsCheck4, IsEncode, IsMake};
 
-use crate::answer::{CheckCommand, Command};
+use crate::answer::CheckCommand;
 use crate::code::EncodeCommand;
-use crate::lines::{feed, finish};
 use crate::make::make;
 use crate::words::{Request, read_words};
-use crate::{Draft, Sink, Source, Status};
+use flat_keywords::Draft;
+use line_program::{Sink, Source, Status, answer_lines};
 use std::alloc::Global;
 
-// Each turn takes at least one byte.
-const MAX_TURNS: u64 = 1 << 48;
-
 /// Does what the words ask for: with no word, or with the word `check`, it judges the pair of each line that the source has left; with
-/// `check4` it judges by draft 4; with `encode` it gives the bytes of the JSON text of each; with `make` and a number from 1 to 100000 it judges that many pairs of its own,
-/// and counts them.
+/// `check4` it judges by draft 4; with `encode` it gives the bytes of the JSON text of each; with `make` and a number from 1 to 100000
+/// it judges that many pairs of its own, and counts them.
 ///
 /// It reads 4,096 bytes at a time, answers each line that ended before it reads again, and hands each answer with the
 /// end of a line to the sink in one piece, and then what the sink left of it. It keeps one line in memory. Where it stops
@@ -90,44 +87,4 @@ pub fn run<S: Source, K: Sink>(
         Some(Request::Make(count)) => make(alloc, count, sink),
         None => Status::BadWords,
     }
-}
-
-// Answers each line that the source has left.
-fn answer_lines<C: Command, S: Source, K: Sink>(
-    command: &C,
-    alloc: Global,
-    source: &mut S,
-    sink: &mut K,
-) -> Status
-    ensures ran { Ran (C.is_answer command.now)
-        (S.left source.old) (S.left source.new) (K.written sink.old) (K.written sink.new) result }
-    ensures good_words { result ≢ Status.BadWords }
-    ensures read_fault { result ≡ Status.ReadFault
-        → Rose (S.faults source.old) (S.faults source.new) }
-    ensures write_fault { result ≡ Status.WriteFault
-        → Rose (K.faults sink.old) (K.faults sink.new) }
-    ensures reads_once { IsTrue S.counts_each
-        → CountsOnce Status.ReadFault (S.faults source.old) (S.faults source.new) result }
-    ensures writes_once { IsTrue K.counts_each
-        → CountsOnce Status.WriteFault (K.faults sink.old) (K.faults sink.new) result }
-    ensures last_read { result ≡ Status.ReadFault → S.last_failed source.new }
-    ensures last_write { result ≡ Status.WriteFault → K.last_failed sink.new }
-{
-    let mut buffer = [0u8; 4096];
-    let mut line = Vec::new(alloc);
-    for _turn in 0..MAX_TURNS {
-        let Ok(count) = source.read(&mut buffer) else {
-            return Status::ReadFault;
-        };
-        if count == 0 {
-            if let Err(status) = finish(command, alloc, &line, sink) {
-                return status;
-            }
-            return Status::Done;
-        }
-        if let Err(status) = feed(command, alloc, &buffer[..count], &mut line, sink) {
-            return status;
-        }
-    }
-    Status::InputTooLong
 }

@@ -1,14 +1,15 @@
 //! Laws of the answers to lines, for all inputs. What a function here is for is its contract.
 
 ghost use Rattle.std.specs.Prelude.{◌≡◌, ◌++◌, ℕ, List, IsSome};
-ghost use Rattle.judge.specs.Answers.{Answers, LineAnswerBy, name_of};
+ghost use Rattle.judge.specs.Answers.{LineAnswerBy, name_of};
+ghost use Rattle.line_program.specs.Answers.{Answers};
 ghost use Rattle.judge.specs.Codes.{CodeAnswer};
-ghost use Rattle.judge.specs.Lines.{lines_of};
+ghost use Rattle.line_program.specs.Lines.{lines_of};
 ghost use Rattle.judge.specs.Made.{IsMadeText, IsSummary};
-ghost use Rattle.judge.specs.Ran.{Agrees};
-ghost use Rattle.judge.specs.Right.{Answer, RightBy};
-ghost use Rattle.judge.specs.declared.draft.Draft.{Draft};
-ghost use Rattle.judge.specs.declared.status.Status.{Status};
+ghost use Rattle.line_program.specs.Ran.{Agrees};
+ghost use Rattle.flat_keywords.specs.Right.{Answer, RightBy};
+ghost use Rattle.flat_keywords.specs.declared.draft.Draft.{Draft};
+ghost use Rattle.line_program.specs.declared.status.Status.{Status};
 
 /// Each right answer of two slices has a printed name: want of memory is right of none.
 pub fn right_answers_have_names()

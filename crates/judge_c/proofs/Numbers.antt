@@ -1,9 +1,9 @@
 -- The number of want of memory is that of want of memory alone.
 use Rattle.std.proofs.Common.{◌≡◌, ◌≤◌, true, false, refl, ◌∙◌, sym, arith}
 use Rattle.std.specs.Prelude.{Ok, Err}
-use Rattle.judge.specs.Right.{Answer}
-use Rattle.judge.specs.declared.errors.Fault.TheVariants.{Malformed, NotText, NumberTooWide}
-use Rattle.judge.specs.declared.errors.JudgeError.TheVariants.{Keywords, NotAnObject, UnknownKeyword, BadKeyword, BadPattern, PatternNotLiteral, TooDeep, Document, OutOfMemory}
+use Rattle.flat_keywords.specs.Right.{Answer}
+use Rattle.flat_keywords.specs.declared.errors.Fault.TheVariants.{Malformed, NotText, NumberTooWide}
+use Rattle.flat_keywords.specs.declared.errors.JudgeError.TheVariants.{Keywords, NotAnObject, UnknownKeyword, BadKeyword, BadPattern, PatternNotLiteral, TooDeep, Document, OutOfMemory}
 use Rattle.judge_c.specs.Answers.{IsGiven, code_of, out_of_memory}
 use Rattle.judge_c.specs.declared.answer.JudgeAnswer.{JudgeAnswer}
 

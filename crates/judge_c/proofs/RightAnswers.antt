@@ -7,15 +7,15 @@ use Rattle.jsonb.specs.Root.{IsRead, read_tree}
 use Rattle.jsonb.specs.declared.error.JsonbError.{JsonbError}
 use Rattle.jsonb.specs.declared.error.JsonbError.TheVariants as read
 use Rattle.jsonb.specs.declared.node.JsonbNode.{JsonbNode}
-use Rattle.judge.proofs.Answering.{err_is, err}
-use Rattle.judge.specs.Compiled.{IsCompiled, HasThisFault}
-use Rattle.judge.specs.inner.Passes.{Passes}
-use Rattle.judge.specs.Right.{Answer, Right, RightBy, keywords_error, document_error, keyword_error}
-use Rattle.judge.specs.declared.checks.Checks.{Checks}
-use Rattle.judge.specs.declared.errors.JudgeError.{JudgeError}
-use Rattle.judge.specs.declared.errors.JudgeError.TheVariants as judged
-use Rattle.judge.specs.declared.errors.KeywordError.{KeywordError}
-use Rattle.judge.specs.declared.errors.KeywordError.TheVariants as keyword
+use Rattle.flat_keywords.proofs.Answering.{err_is, err}
+use Rattle.flat_keywords.specs.Compiled.{IsCompiled, HasThisFault}
+use Rattle.flat_keywords.specs.inner.Passes.{Passes}
+use Rattle.flat_keywords.specs.Right.{Answer, Right, RightBy, keywords_error, document_error, keyword_error}
+use Rattle.flat_keywords.specs.declared.checks.Checks.{Checks}
+use Rattle.flat_keywords.specs.declared.errors.JudgeError.{JudgeError}
+use Rattle.flat_keywords.specs.declared.errors.JudgeError.TheVariants as judged
+use Rattle.flat_keywords.specs.declared.errors.KeywordError.{KeywordError}
+use Rattle.flat_keywords.specs.declared.errors.KeywordError.TheVariants as keyword
 
 -- want of memory, or the right answer to the keywords and every document
 abbrev pub IsRefusal : List ℕ → JudgeError → Type 0

@@ -1,8 +1,8 @@
 -- What C gets for an answer. This project's own.
 use Rattle.std.specs.Prelude.{ℕ, ◌≡◌, ◌⊎◌, ◌≤◌, ◌+◌, List, length, slice_range, slice_index_or, true, false, Ok, Err}
-use Rattle.judge.specs.Right.{Answer, Right}
-use Rattle.judge.specs.declared.errors.Fault.TheVariants.{Malformed, NotText, NumberTooWide}
-use Rattle.judge.specs.declared.errors.JudgeError.TheVariants.{Keywords, NotAnObject, UnknownKeyword, BadKeyword, BadPattern, PatternNotLiteral, TooDeep, Document, OutOfMemory}
+use Rattle.flat_keywords.specs.Right.{Answer, Right}
+use Rattle.flat_keywords.specs.declared.errors.Fault.TheVariants.{Malformed, NotText, NumberTooWide}
+use Rattle.flat_keywords.specs.declared.errors.JudgeError.TheVariants.{Keywords, NotAnObject, UnknownKeyword, BadKeyword, BadPattern, PatternNotLiteral, TooDeep, Document, OutOfMemory}
 use Rattle.judge_c.specs.declared.answer.JudgeAnswer.{JudgeAnswer}
 
 -- ---- the numbers

@@ -1,10 +1,10 @@
 //! Answers as C gets them.
 
 ghost use Rattle.std.specs.Prelude.{◌≡◌};
-ghost use Rattle.judge.specs.Right.{Answer};
+ghost use Rattle.flat_keywords.specs.Right.{Answer};
 ghost use Rattle.judge_c.specs.Answers.{IsGiven, bad_offsets, code_of, judged, member_of};
 
-use judge::{Fault, JudgeError};
+use flat_keywords::{Fault, JudgeError};
 
 /// The code for bytes of a document that are not there, and for offsets that are not one more than the codes.
 pub(crate) const BAD_OFFSETS: u32 = 15;

@@ -3,12 +3,12 @@
 ghost use Rattle.std.specs.Prelude.{◌≡◌, ◌⊎◌, List, ℕ, Ok, Err, MatchResult};
 ghost use Rattle.json_model.specs.Tree.{Tree};
 ghost use Rattle.jsonb.specs.Root.{IsRead};
-ghost use Rattle.judge.specs.Compiled.{IsCompiled};
-ghost use Rattle.judge.specs.Right.{Right, keyword_error};
+ghost use Rattle.flat_keywords.specs.Compiled.{IsCompiled};
+ghost use Rattle.flat_keywords.specs.Right.{Right, keyword_error};
 
+use flat_keywords::{Checks, Fault, JudgeError, KeywordError};
 use json_exact::OutOfMemory;
 use jsonb::{Jsonb, JsonbError};
-use judge::{Checks, Fault, JudgeError, KeywordError};
 use std::alloc::Global;
 
 /// The checks of a keyword object. An error is the right answer whatever the document is, but for want of memory.

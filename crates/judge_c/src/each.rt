@@ -3,13 +3,13 @@
 ghost use Rattle.std.specs.Prelude.{◌≡◌, ◌≢◌, ◌↔◌, ◌⊎◌, ◌+◌, ◌<◌, List, ℕ, length, Ok, Err};
 ghost use Rattle.json_model.specs.Tree.{Tree};
 ghost use Rattle.jsonb.specs.Root.{IsRead};
-ghost use Rattle.judge.specs.Compiled.{IsCompiled};
-ghost use Rattle.judge.specs.Validity.{IsValid};
+ghost use Rattle.flat_keywords.specs.Compiled.{IsCompiled};
+ghost use Rattle.flat_keywords.specs.Validity.{IsValid};
 ghost use Rattle.judge_c.specs.Answers.{IsCoded, IsCodedAt, IsGiven, IsRightAnswer, bad_offsets, judged};
 
 use crate::answer::{BAD_OFFSETS, JUDGED, JudgeAnswer, code_number};
 use crate::compiled::{compile, judge_document};
-use judge::{Checks, JudgeError};
+use flat_keywords::{Checks, JudgeError};
 use std::alloc::Global;
 
 /// The code for the document that lies from one offset to another.

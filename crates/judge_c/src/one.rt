@@ -5,11 +5,11 @@ ghost use Rattle.json_model.specs.Json.{IsJson};
 ghost use Rattle.json_model.specs.Nest.{nest};
 ghost use Rattle.json_model.specs.Tree.{Tree};
 ghost use Rattle.jsonb_layout.specs.Stands.{Stands};
-ghost use Rattle.judge.specs.Validity.{ChecksFreely, IsLean, IsValid};
+ghost use Rattle.flat_keywords.specs.Validity.{ChecksFreely, IsLean, IsValid};
 ghost use Rattle.judge_c.specs.Answers.{IsGiven, IsRightAnswer, out_of_memory};
 
 use crate::answer::JudgeAnswer;
-use judge::{JudgeError, judge};
+use flat_keywords::{JudgeError, judge};
 use std::alloc::Global;
 
 /// The answer to the keywords and the document, both as `jsonb` bytes. Want of memory comes only where it may

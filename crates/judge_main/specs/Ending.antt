@@ -4,12 +4,12 @@ use Rattle.std.specs.declared.option.Option.{Option}
 use Rattle.judge.specs.Answers.{LineAnswer, LineAnswerBy}
 use Rattle.judge.specs.Codes.{CodeAnswer}
 use Rattle.judge.specs.Made.{Made}
-use Rattle.judge.specs.Ran.{Ran}
-use Rattle.judge.specs.Status.{code_of}
+use Rattle.line_program.specs.Ran.{Ran}
+use Rattle.line_program.specs.Status.{code_of}
 use Rattle.judge.specs.Words.{AreGood, IsCheck, IsCheck4, IsEncode, IsMake}
-use Rattle.judge.specs.declared.draft.Draft.TheVariants as drafts
-use Rattle.judge.specs.declared.status.Status.{Status}
-use Rattle.judge.specs.declared.status.Status.TheVariants.{BadWords, ReadFault, WriteFault}
+use Rattle.flat_keywords.specs.declared.draft.Draft.TheVariants as drafts
+use Rattle.line_program.specs.declared.status.Status.{Status}
+use Rattle.line_program.specs.declared.status.Status.TheVariants.{BadWords, ReadFault, WriteFault}
 
 -- the code is that of a status, which agrees with the words, with what was read and written, and with which stream failed;
 -- the four lists are those of `Ran`, and the four facts say that the source was not touched, that neither stream was, and which

@@ -1,44 +1,19 @@
 //! Answers the lines of standard input on standard output.
 //!
-//! With no word, or with the word `check`, it judges the pair of each line, and with `check4` by draft 4. With `encode` it gives the bytes
-//! of the JSON text of each, in hex. With `make` and a number it reads nothing, and judges and counts that many pairs of its own. It ends with the code of the
-//! run's status; where the words cannot be got from the system, with 7 for want of memory and else with 1, before anything is read.
+//! With no word, or with the word `check`, it judges the pair of each line, and with `check4` by draft 4. With `encode` it gives the
+//! bytes of the JSON text of each, in hex. With `make` and a number it reads nothing, and judges and counts that many pairs of its own.
+//! It ends with the code of the run's status; where the words cannot be got from the system, with 7 for want of memory and else with 1,
+//! before anything is read.
 #![tactic(auto)]
 
-ghost use Rattle.std.specs.Prelude.{◌≡◌, ◌⊎◌, map, string_bytes, IfErr, IfOk};
+ghost use Rattle.std.specs.Prelude.{◌≡◌, map, string_bytes, IfErr, IfOk};
 ghost use Rattle.std.specs.Process.{exit_status};
-ghost use Rattle.judge.specs.Faults.{Rose};
+ghost use Rattle.line_program.specs.Faults.{Rose};
 ghost use Rattle.judge_main.specs.Ending.{Ends};
 
-mod adapters;
-
-use adapters::{StdinSource, StdoutSink};
-use judge::{Sink, Source};
-use std::alloc::{AllocError, Global};
-use std::env;
-use std::env::Env;
-use std::io::ErrorKind;
+use line_program::{Sink, Source, StdinSource, StdoutSink, words_of};
+use std::alloc::Global;
 use std::process::ExitCode;
-
-const NO_WORDS: u8 = 1;
-
-const NO_MEMORY: u8 = 7;
-
-// The words after the program's name, or the code to end with.
-fn words_of<R: Env + AllocGlobal>(rt: &R) -> Result<Vec<String>, u8>
-    ensures { IfErr result (λ code. (code ≡ 1) ⊎ (code ≡ 7)) }
-{
-    let mut all = match env::args(rt) {
-        Ok(all) => all,
-        Err(error) if error.kind() == ErrorKind::OutOfMemory => return Err(NO_MEMORY),
-        Err(_) => return Err(NO_WORDS),
-    };
-    let _program = all.next();
-    match all.collect(rt.alloc()) {
-        Ok(words) => Ok(words),
-        Err(AllocError) => Err(NO_MEMORY),
-    }
-}
 
 // Runs with these words and gives the code of the run's status, or the code that stands in place of the words.
 fn end_code<S: Source, K: Sink>(

@@ -1,12 +1,11 @@
 -- Each answer of `judge_tree` is the right one.
 use Rattle.std.proofs.Common.{◌≡◌, ℕ, List, Bool, Some, None, refl, ap, ◌∙◌, ◌⊎◌, inl, inr}
-use Rattle.std.specs.Prelude.{Result, Ok, Err, ◌↔◌, IsTrue}
+use Rattle.std.specs.Prelude.{Ok, Err, ◌↔◌, IsTrue}
 use Rattle.json_model.specs.Tree.{Tree}
 use Rattle.jsonb.specs.Root.{IsRead}
 use Rattle.jsonb.specs.declared.error.JsonbError.{JsonbError}
 use Rattle.jsonb.specs.declared.error.JsonbError.TheVariants as read
-use Rattle.judge.proofs.Answering.{err_is}
-use Rattle.judge.proofs.Answering.{Said}
+use Rattle.flat_keywords.proofs.Answering.{Said, err_is}
 use Rattle.judge_tree.specs.Compiled.{IsCompiled, IsRefused, Passes}
 use Rattle.judge_tree.specs.Right.{Answer, Right, document_error, schema_error, slice_error}
 use Rattle.judge_tree.specs.declared.errors.SchemaError.{SchemaError}

@@ -1,10 +1,10 @@
 -- Each pair of slices has at most one right answer, and each tree at most one fault as a schema.
-use Rattle.std.proofs.Common.{◌≡◌, ℕ, List, Bool, true, false, Option, Some, None, refl, sym, ap, subst, ◌∙◌, inl, inr}
-use Rattle.std.specs.Prelude.{Result, Ok, Err, ◌↔◌, IsTrue}
+use Rattle.std.proofs.Common.{◌≡◌, ℕ, List, Bool, Option, Some, None, refl, sym, ap, subst, ◌∙◌, inl, inr}
+use Rattle.std.specs.Prelude.{Result, Ok, Err}
 use Rattle.json_model.specs.Tree.{Tree}
 use Rattle.jsonb.proofs.OneRead.{one_read}
 use Rattle.jsonb.specs.declared.error.JsonbError.{JsonbError}
-use Rattle.judge.proofs.OneAnswer.{one_truth}
+use Rattle.flat_keywords.proofs.OneAnswer.{one_truth}
 use Rattle.judge_tree.specs.Compiled.{HasFault}
 use Rattle.judge_tree.specs.Right.{Answer, Right, RightFrom, RightOf, RightWith}
 use Rattle.judge_tree.specs.Verdict.{IsValidUnder}

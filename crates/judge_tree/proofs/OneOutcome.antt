@@ -2,15 +2,15 @@
 use Rattle.std.proofs.Common.{◌≡◌, ◌+◌, ℕ, List, Option, Some, None, refl, sym, ap, subst, ◌∙◌}
 use Rattle.std.specs.Prelude.{Err, ⊤, IsSomeAnd}
 use Rattle.json_model.specs.Tree.{Tree, null, boolean, number, string, scalar, array, object, Elements, no_elements, element, Members, no_members, member}
-use Rattle.judge.proofs.Answering.{err_is}
-use Rattle.judge.proofs.OneAnswer.{one_on_trees}
-use Rattle.judge.specs.Names.{keyword_of}
-use Rattle.judge.specs.Validity as flat
-use Rattle.judge.specs.declared.draft.Draft.TheVariants as drafts
-use Rattle.judge.specs.declared.errors.KeywordError.{KeywordError}
-use Rattle.judge.specs.declared.errors.KeywordError.TheVariants as keyword
+use Rattle.flat_keywords.proofs.Answering.{err_is}
+use Rattle.flat_keywords.proofs.OneAnswer.{one_on_trees}
+use Rattle.flat_keywords.specs.Names.{keyword_of}
+use Rattle.flat_keywords.specs.Validity as flat
+use Rattle.flat_keywords.specs.declared.draft.Draft.TheVariants as drafts
+use Rattle.flat_keywords.specs.declared.errors.KeywordError.{KeywordError}
+use Rattle.flat_keywords.specs.declared.errors.KeywordError.TheVariants as keyword
 use Rattle.judge_tree.specs.Applicators.{Lines, applicator_of, line_of}
-use Rattle.judge.specs.Validity.{IsBad, IsBadPattern, IsNotLiteral, IsUnknown}
+use Rattle.flat_keywords.specs.Validity.{IsBad, IsBadPattern, IsNotLiteral, IsUnknown}
 use Rattle.judge_tree.specs.Walks.{Outcome, went, stopped, Continues, FlatFault, Walks, WalksEach, WalksElements, WalksFlat, WalksList, WalksProperties, WalksValues}
 use Rattle.judge_tree.specs.inner.Built.{flat_error}
 use Rattle.judge_tree.specs.declared.applicator.Applicator.{Applicator}

@@ -3,7 +3,7 @@ use Rattle.std.proofs.Common.{◌≡◌, ap, sym, ◌∙◌, map, String, string
 use Rattle.std.specs.declared.alloc.Global.{Global}
 use Rattle.std.specs.declared.boxed.Box.{Box}
 use Rattle.std.specs.declared.vec.Vec.{Vec}
-use Rattle.judge.specs.declared.checks.Checks.{Checks}
+use Rattle.flat_keywords.specs.declared.checks.Checks.{Checks}
 use Rattle.judge_tree.specs.inner.Asked.{Asked, flat, negated, at_key, at_others, asked, asked_step}
 use Rattle.judge_tree.specs.declared.formula.Formula.{Formula}
 use Rattle.judge_tree.specs.declared.formula.Formula.TheOpen.{Formula-F}

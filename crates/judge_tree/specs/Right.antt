@@ -5,7 +5,7 @@ use Rattle.json_model.specs.Tree.{Tree}
 use Rattle.jsonb.specs.Root.{IsRead}
 use Rattle.jsonb.specs.declared.error.JsonbError.{JsonbError}
 use Rattle.jsonb.specs.declared.error.JsonbError.TheVariants as read
-use Rattle.judge.specs.declared.errors.Fault.TheVariants as faults
+use Rattle.flat_keywords.specs.declared.errors.Fault.TheVariants as faults
 use Rattle.judge_tree.specs.Compiled.{HasFault}
 use Rattle.judge_tree.specs.Verdict.{IsValidUnder}
 use Rattle.judge_tree.specs.declared.errors.SchemaError.{SchemaError}

@@ -1,7 +1,7 @@
 -- Which schemas ask for unique elements, the one thing for which checking a document takes memory. This project's own.
 use Rattle.std.specs.Prelude.{⊤}
 use Rattle.json_model.specs.Tree.{Tree, scalar, array, object, Elements, no_elements, element, Members, no_members, member}
-use Rattle.judge.specs.Validity.{AsksUnique}
+use Rattle.flat_keywords.specs.Validity.{AsksUnique}
 use Rattle.judge_tree.specs.Applicators.{applicator_of, line_of}
 
 abbrev mutual

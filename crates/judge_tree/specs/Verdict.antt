@@ -5,7 +5,7 @@ use Rattle.std.specs.Prelude.{ℕ, ◌≡◌, List, [], ◌∷◌, ◌⊎◌, �
 use Rattle.std.specs.List.{AllByRecursion}
 use Rattle.json_model.specs.Parts.{elements_of, lookup, pairs_in, pairs_of}
 use Rattle.json_model.specs.Tree.{null, boolean, number, string, Tree, scalar, array, object, Elements, no_elements, element, Members, no_members, member}
-use Rattle.judge.specs.Verdict.{HoldsAt}
+use Rattle.flat_keywords.specs.Verdict.{HoldsAt}
 use Rattle.judge_tree.specs.Applicators.{applicator_of, line_of}
 
 -- the keys under `properties`

@@ -5,9 +5,8 @@
 -- other, each whole before the next.
 use Rattle.std.specs.Prelude.{ℕ, ◌+◌, ◌≡◌, List}
 use Rattle.json_model.specs.Tree.{null, boolean, number, string, Tree, scalar, array, object, Elements, no_elements, element, Members, no_members, member}
-use Rattle.judge.specs.Validity.{IsFair}
+use Rattle.flat_keywords.specs.Validity.{IsBad, IsBadPattern, IsFair, IsNotLiteral, IsUnknown}
 use Rattle.judge_tree.specs.Applicators.{applicator_of, line_of}
-use Rattle.judge.specs.Validity.{IsBad, IsBadPattern, IsNotLiteral, IsUnknown}
 use Rattle.judge_tree.specs.declared.errors.SchemaError.{SchemaError}
 use Rattle.judge_tree.specs.declared.errors.SchemaError.TheVariants.{SchemaTooDeep, NotASchema, UnknownKeyword, BadKeyword, BadPattern, PatternNotLiteral, OutOfMemory}
 

@@ -4,8 +4,8 @@ ghost use Rattle.std.specs.Prelude.{◌≡◌, ◌∷◌, [], ◌++◌, IfOk, On
 ghost use Rattle.judge_tree.specs.inner.Asked.{all_of, any_of, asked, at_elements, at_key, at_others, flat, negated, truth};
 
 use crate::formula::Formula;
+use flat_keywords::Checks;
 use json_exact::OutOfMemory;
-use judge::Checks;
 use std::alloc::Global;
 
 /// A formula on the heap.

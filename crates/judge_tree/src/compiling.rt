@@ -3,8 +3,8 @@
 ghost use Rattle.std.specs.Prelude.{◌≡◌, ◌⊎◌, IfOk, MatchResult, map, string_bytes};
 ghost use Rattle.std.specs.List.{AllByRecursion};
 ghost use Rattle.json_model.specs.Parts.{elements_of, members_from, pairs_of};
-ghost use Rattle.judge.specs.Validity.{AsksUnique};
-ghost use Rattle.judge.specs.Verdict.{HoldsAt};
+ghost use Rattle.flat_keywords.specs.Validity.{AsksUnique};
+ghost use Rattle.flat_keywords.specs.Verdict.{HoldsAt};
 ghost use Rattle.judge_tree.specs.Unique.{NeverAsks, NoMemberAsks, NoPropertyAsks, NoneInListAsks};
 ghost use Rattle.judge_tree.specs.Verdict.{IsOneOf, IsValidUnder, MeetsAll, MeetsAny, MeetsEach, MeetsProperties, property_names};
 ghost use Rattle.judge_tree.specs.Walks.{Walks, WalksEach, WalksFlat, WalksList, WalksProperties};

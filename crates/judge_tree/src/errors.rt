@@ -3,8 +3,8 @@
 ghost use Rattle.std.specs.Prelude.{◌≡◌};
 ghost use Rattle.judge_tree.specs.inner.Built.{flat_error};
 
+use flat_keywords::KeywordError;
 use json_exact::OutOfMemory;
-use judge::KeywordError;
 use thiserror::Error;
 
 /// Why a schema is refused: that it nests too deep, and else by its first fault. `schema` is the number of the schema that has the

@@ -1,6 +1,6 @@
 //! What a schema asks of a document, compiled.
 
-use judge::Checks;
+use flat_keywords::Checks;
 
 /// What a schema asks of a document. A member of a schema is one of these, and an object that is a schema is `All` of them.
 #[derive(Drop)]

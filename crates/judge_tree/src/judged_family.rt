@@ -1,12 +1,12 @@
 //! Flat keywords over a family of nodes.
 
 ghost use Rattle.std.specs.Prelude.{◌↔◌, IsTrue, IsOk, IfOk, IfErr};
-ghost use Rattle.judge.specs.Compiled.{IsCompiledMember, IsFault};
-ghost use Rattle.judge.specs.inner.Passes.{NeedsNoMemory, Passes};
+ghost use Rattle.flat_keywords.specs.Compiled.{IsCompiledMember, IsFault};
+ghost use Rattle.flat_keywords.specs.inner.Passes.{NeedsNoMemory, Passes};
 
+use flat_keywords::{Checks, KeywordError};
 use json_exact::OutOfMemory;
 use json_traits::{FamilyOf, Node, NodeFamily};
-use judge::{Checks, KeywordError};
 use std::alloc::Global;
 
 /// A family of nodes whose members can be flat keywords, and whose nodes can be checked.

@@ -4,8 +4,8 @@ ghost use Rattle.std.specs.Prelude.{◌≡◌};
 ghost use Rattle.judge_tree.specs.Right.{document_error, schema_error, slice_error};
 
 use crate::errors::SchemaError;
+use flat_keywords::Fault;
 use jsonb::JsonbError;
-use judge::Fault;
 use thiserror::Error;
 
 /// Why `judge_tree` gives no verdict. Want of memory aside, the first cause that stands is answered: those of the schema's bytes, those

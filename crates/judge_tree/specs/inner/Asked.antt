@@ -3,8 +3,8 @@ use Rattle.std.specs.Prelude.{ℕ, Bool, true, false, IsTrue, ◌⊎◌, List, [
 use Rattle.std.specs.List.{AllByRecursion}
 use Rattle.json_model.specs.Parts.{elements_of, lookup, pairs_of}
 use Rattle.json_model.specs.Tree.{Tree}
-use Rattle.judge.specs.inner.Passes as flat_checks
-use Rattle.judge.specs.declared.checks.Checks.{Checks}
+use Rattle.flat_keywords.specs.inner.Passes as flat_checks
+use Rattle.flat_keywords.specs.declared.checks.Checks.{Checks}
 use Rattle.judge_tree.specs.Verdict.{IsOneOf}
 use Rattle.judge_tree.specs.declared.formula.Formula.{Formula}
 use Rattle.judge_tree.specs.declared.formula.Formula.TheOpen.{Formula-F}

@@ -1,8 +1,8 @@
 -- What the parts of a schema are compiled to. The code's own words.
 use Rattle.std.specs.Prelude.{ℕ, ◌≡◌, ◌↔◌, ◌⊎◌, List, map}
 use Rattle.json_model.specs.Tree.{Tree, no_members, member}
-use Rattle.judge.specs.declared.errors.KeywordError.{KeywordError}
-use Rattle.judge.specs.declared.errors.KeywordError.TheVariants as keyword
+use Rattle.flat_keywords.specs.declared.errors.KeywordError.{KeywordError}
+use Rattle.flat_keywords.specs.declared.errors.KeywordError.TheVariants as keyword
 use Rattle.judge_tree.specs.Applicators.{applicator_of, line_of}
 use Rattle.judge_tree.specs.Unique.{NoMemberAsks, NoneInListAsks}
 use Rattle.judge_tree.specs.Verdict.{MeetsAll, MeetsAny, MeetsEach}

@@ -1,7 +1,7 @@
 use Rattle.std.proofs.Common.{ℕ, ◌<◌, List, Ok}
 use Rattle.json_model.specs.Tree.{Tree}
 use Rattle.jsonb.specs.Root.{IsRead}
-use Rattle.judge.specs.Compiled.{IsCompiled}
+use Rattle.flat_keywords.specs.Compiled.{IsCompiled}
 use Rattle.judge_c.specs.Answers.{IsCodedAt}
 use Rattle.judge_c.proofs.each.judge_all.Given as goal
 

@@ -1,5 +1,0 @@
-use Rattle.judge.proofs.Steps.{stopped_unbegun}
-use Rattle.judge.proofs.lines.answer_line.Goals as goal
-
-pub returns-in_default-clause-stops : goal.returns-in_default-clause-stops
-returns-in_default-clause-stops g c = stopped_unbegun _ _ c.requires.short

@@ -1,7 +1,0 @@
--- What contracts see of a source that never fails. This project's own.
-use Rattle.std.specs.Prelude.{ℕ, List, drop}
-use Rattle.judge.specs.declared.steady.SteadySource.{SteadySource}
-
--- the bytes left
-abbrev pub steady_left : SteadySource → List ℕ
-steady_left source = drop source.place source.bytes.items

@@ -1,0 +1,9 @@
+pub mod Answers
+pub mod Faults
+pub mod Lines
+pub mod Memory
+pub mod Puts
+pub mod Ran
+pub mod Status
+pub mod Steady
+pub mod inner

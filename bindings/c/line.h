@@ -8,9 +8,10 @@
 
 #define MOST 65536
 
+/* the keywords or the schema, and the document */
 struct pair {
-	uint8_t keywords[MOST], document[MOST];
-	size_t keywords_len, document_len;
+	uint8_t rules[MOST], document[MOST];
+	size_t rules_len, document_len;
 };
 
 static int
@@ -45,7 +46,7 @@ read_pair(FILE *file, struct pair *pair)
 		return -1;
 	end = line + strcspn(line, "\n");
 	space = memchr(line, ' ', (size_t) (end - line));
-	return space && read_hex(line, space, pair->keywords, &pair->keywords_len)
+	return space && read_hex(line, space, pair->rules, &pair->rules_len)
 		&& read_hex(space + 1, end, pair->document, &pair->document_len);
 }
 

@@ -1,6 +1,7 @@
 /*
  * Each allocation is refused in turn, for the lines of standard input: the answer is want of memory or the same as with
- * memory, and every block comes back. This allocator stands in place of the kit's.
+ * memory, and every block comes back. This allocator stands in place of the kit's. With the word 'tree' the lines are nested
+ * schemas and documents.
  */
 #include <stdlib.h>
 
@@ -51,35 +52,59 @@ rattle_dealloc(void *block)
 	free(block);
 }
 
-/* The answers of both calls, while allocation number 'refuse' is refused; none is where it is 0. */
+/* How a pair is judged: by one call, and by the call for many documents, which gives the code that was written or why none was. */
+typedef uint32_t (*judged)(const struct pair *);
+
 static uint32_t
-judge_with(const struct pair *pair, long refuse)
+one(const struct pair *pair)
 {
-	calls = 0, refused_call = refuse;
-	return judge_c_judge(pair->keywords, pair->keywords_len, pair->document, pair->document_len).code;
+	return judge_c_judge(pair->rules, pair->rules_len, pair->document, pair->document_len).code;
 }
 
 static uint32_t
-each_with(const struct pair *pair, long refuse)
+each(const struct pair *pair)
 {
 	size_t offsets[] = {0, pair->document_len};
 	uint32_t code = JUDGE_JUDGED, all;
 
-	calls = 0, refused_call = refuse;
-	all = judge_c_each(pair->keywords, pair->keywords_len, pair->document, pair->document_len, offsets, 2, &code, 1).code;
+	all = judge_c_each(pair->rules, pair->rules_len, pair->document, pair->document_len, offsets, 2, &code, 1).code;
 	return all == JUDGE_JUDGED ? code : all;
+}
+
+static uint32_t
+tree(const struct pair *pair)
+{
+	return judge_c_tree(pair->rules, pair->rules_len, pair->document, pair->document_len).code;
+}
+
+static uint32_t
+tree_each(const struct pair *pair)
+{
+	size_t offsets[] = {0, pair->document_len};
+	uint32_t code = JUDGE_JUDGED, all;
+
+	all = judge_c_tree_each(pair->rules, pair->rules_len, pair->document, pair->document_len, offsets, 2, &code, 1).code;
+	return all == JUDGE_JUDGED ? code : all;
+}
+
+/* The answer while allocation number 'refuse' is refused; none is where it is 0. */
+static uint32_t
+with_refusal(judged call, const struct pair *pair, long refuse)
+{
+	calls = 0, refused_call = refuse;
+	return call(pair);
 }
 
 /* Refuses each allocation of a call in turn. */
 static int
-holds(const struct pair *pair, uint32_t (*judged_with)(const struct pair *, long))
+holds(judged call, const struct pair *pair)
 {
-	uint32_t wanted = judged_with(pair, 0);
+	uint32_t wanted = with_refusal(call, pair, 0);
 
 	if (wanted == JUDGE_OUT_OF_MEMORY || live)
 		return 0;
 	for (long refuse = 1;; refuse++) {
-		uint32_t code = judged_with(pair, refuse);
+		uint32_t code = with_refusal(call, pair, refuse);
 
 		if (live || (code != wanted && code != JUDGE_OUT_OF_MEMORY))
 			return 0;
@@ -90,13 +115,15 @@ holds(const struct pair *pair, uint32_t (*judged_with)(const struct pair *, long
 }
 
 int
-main(void)
+main(int count, char **words)
 {
 	static struct pair pair;
-	int read, failed = 0;
+	int nested = count == 2 && strcmp(words[1], "tree") == 0, read, failed = 0;
+	judged of_one = nested ? tree : one, of_many = nested ? tree_each : each;
 
 	for (long number = 1; (read = read_pair(stdin, &pair)) >= 0; number++) {
-		if (read && !(holds(&pair, judge_with) && holds(&pair, each_with) && judge_with(&pair, 0) == each_with(&pair, 0))) {
+		if (read && !(holds(of_one, &pair) && holds(of_many, &pair)
+				&& with_refusal(of_one, &pair, 0) == with_refusal(of_many, &pair, 0))) {
 			printf("line %ld: another answer, or a block that did not come back\n", number);
 			failed = 1;
 		}

@@ -2,7 +2,7 @@
 CREATE FUNCTION refusal(keywords jsonb, document jsonb, OUT state text, OUT message text, OUT detail text)
 LANGUAGE plpgsql AS $$
 BEGIN
-  PERFORM jsonb_valid(keywords, document);
+  PERFORM jsonb_valid_flat(keywords, document);
 EXCEPTION WHEN OTHERS THEN
   GET STACKED DIAGNOSTICS state = RETURNED_SQLSTATE, message = MESSAGE_TEXT, detail = PG_EXCEPTION_DETAIL;
 END $$;

@@ -94,8 +94,9 @@ INSERT INTO judged VALUES
   ('{"minLength": 1, "minimum": 3}', '2', false),
   ('{"minLength": 1, "minimum": 3}', '"a"', true);
 
--- the verdicts, all as they have to be
-SELECT * FROM judged WHERE jsonb_valid(keywords, document) IS DISTINCT FROM verdict;
+-- the verdicts, all as they have to be, as flat keywords and as schemas
+SELECT * FROM judged WHERE jsonb_valid_flat(keywords, document) IS DISTINCT FROM verdict
+    OR jsonb_valid(keywords, document) IS DISTINCT FROM verdict;
 
 -- how many there are of each keyword that stands alone
 SELECT keyword, count(*) FILTER (WHERE jsonb_valid(keywords, document)) AS valid,
@@ -108,4 +109,4 @@ GROUP BY keyword ORDER BY keyword COLLATE "C";
 SELECT jsonb_valid(NULL, '1') IS NULL AS no_keywords, jsonb_valid('{}', NULL) IS NULL AS no_document;
 
 SELECT provolatile AS volatile, proisstrict AS strict, proparallel AS parallel
-FROM pg_proc WHERE oid = 'jsonb_valid(jsonb, jsonb)'::regprocedure;
+FROM pg_proc WHERE oid IN ('jsonb_valid(jsonb, jsonb)'::regprocedure, 'jsonb_valid_flat(jsonb, jsonb)'::regprocedure);

@@ -1,2 +1,4 @@
 pub mod Numbers
 pub mod RightAnswers
+pub mod RightTreeAnswers
+pub mod Coded

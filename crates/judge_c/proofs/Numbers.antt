@@ -1,10 +1,11 @@
 -- The number of want of memory is that of want of memory alone.
-use Rattle.std.proofs.Common.{◌≡◌, ◌≤◌, true, false, refl, ◌∙◌, sym, arith}
+use Rattle.std.proofs.Common.{◌≡◌, true, false, refl, ◌∙◌, sym}
 use Rattle.std.specs.Prelude.{Ok, Err}
 use Rattle.flat_keywords.specs.Right.{Answer}
 use Rattle.flat_keywords.specs.declared.errors.Fault.TheVariants.{Malformed, NotText, NumberTooWide}
 use Rattle.flat_keywords.specs.declared.errors.JudgeError.TheVariants.{Keywords, NotAnObject, UnknownKeyword, BadKeyword, BadPattern, PatternNotLiteral, TooDeep, Document, OutOfMemory}
-use Rattle.judge_c.specs.Answers.{IsGiven, code_of, out_of_memory}
+use Rattle.judge_c.specs.Answers.{IsGiven, code_of}
+use Rattle.judge_c.specs.Codes.{out_of_memory}
 use Rattle.judge_c.specs.declared.answer.JudgeAnswer.{JudgeAnswer}
 
 -- an answer with the number of want of memory is want of memory
@@ -28,21 +29,3 @@ memory_alone (Err OutOfMemory) h = refl
 -- what is given for an answer has the number of want of memory only where the answer is want of memory
 pub given_memory : (a : JudgeAnswer) (r : Answer) → IsGiven a r → a.code ≡ out_of_memory → r ≡ Err OutOfMemory
 given_memory a r is h = memory_alone r (sym is.code ∙ h)
-
--- the number of an answer is none of the two that are no answers
-pub answer_below : (r : Answer) → code_of r ≤ out_of_memory
-answer_below (Ok false) = omega arith
-answer_below (Ok true) = omega arith
-answer_below (Err (Keywords Malformed)) = omega arith
-answer_below (Err (Keywords NotText)) = omega arith
-answer_below (Err (Keywords NumberTooWide)) = omega arith
-answer_below (Err NotAnObject) = omega arith
-answer_below (Err (UnknownKeyword m)) = omega arith
-answer_below (Err (BadKeyword m)) = omega arith
-answer_below (Err (BadPattern m)) = omega arith
-answer_below (Err (PatternNotLiteral m)) = omega arith
-answer_below (Err (TooDeep m)) = omega arith
-answer_below (Err (Document Malformed)) = omega arith
-answer_below (Err (Document NotText)) = omega arith
-answer_below (Err (Document NumberTooWide)) = omega arith
-answer_below (Err OutOfMemory) = omega arith

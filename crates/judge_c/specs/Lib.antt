@@ -1,1 +1,5 @@
+pub mod Codes
 pub mod Answers
+pub mod TreeAnswers
+pub mod Many
+pub mod inner

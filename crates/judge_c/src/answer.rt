@@ -1,16 +1,14 @@
-//! Answers as C gets them.
+//! Answers to keywords and a document, as C gets them.
 
 ghost use Rattle.std.specs.Prelude.{◌≡◌};
 ghost use Rattle.flat_keywords.specs.Right.{Answer};
-ghost use Rattle.judge_c.specs.Answers.{IsGiven, bad_offsets, code_of, judged, member_of};
+ghost use Rattle.judge_c.specs.Answers.{IsGiven, code_of, member_of};
 
+use crate::codes::{
+    BAD_KEYWORD, BAD_PATTERN, OUT_OF_MEMORY, PATTERN_NOT_LITERAL, UNKNOWN_KEYWORD, document_number,
+    verdict_number,
+};
 use flat_keywords::{Fault, JudgeError};
-
-/// The code for bytes of a document that are not there, and for offsets that are not one more than the codes.
-pub(crate) const BAD_OFFSETS: u32 = 15;
-
-/// The code for documents that all have their codes.
-pub(crate) const JUDGED: u32 = 16;
 
 /// An answer: its number, and the place of the member that it names, in key order from 0. Where it names none, the place is 0.
 #[repr(C)]
@@ -41,25 +39,22 @@ impl JudgeAnswer {
 }
 
 /// The number of an answer.
-pub(crate) fn code_number(answer: Result<bool, JudgeError>) -> u32
+fn code_number(answer: Result<bool, JudgeError>) -> u32
     ensures { result ≡ code_of answer }
 {
     match answer {
-        Ok(false) => 0,
-        Ok(true) => 1,
+        Ok(valid) => verdict_number(valid),
         Err(JudgeError::Keywords(Fault::Malformed)) => 2,
         Err(JudgeError::Keywords(Fault::NotText)) => 3,
         Err(JudgeError::Keywords(Fault::NumberTooWide)) => 4,
         Err(JudgeError::NotAnObject) => 5,
-        Err(JudgeError::UnknownKeyword { .. }) => 6,
-        Err(JudgeError::BadKeyword { .. }) => 7,
-        Err(JudgeError::BadPattern { .. }) => 8,
-        Err(JudgeError::PatternNotLiteral { .. }) => 9,
+        Err(JudgeError::UnknownKeyword { .. }) => UNKNOWN_KEYWORD,
+        Err(JudgeError::BadKeyword { .. }) => BAD_KEYWORD,
+        Err(JudgeError::BadPattern { .. }) => BAD_PATTERN,
+        Err(JudgeError::PatternNotLiteral { .. }) => PATTERN_NOT_LITERAL,
         Err(JudgeError::TooDeep { .. }) => 10,
-        Err(JudgeError::Document(Fault::Malformed)) => 11,
-        Err(JudgeError::Document(Fault::NotText)) => 12,
-        Err(JudgeError::Document(Fault::NumberTooWide)) => 13,
-        Err(JudgeError::OutOfMemory) => 14,
+        Err(JudgeError::Document(fault)) => document_number(fault),
+        Err(JudgeError::OutOfMemory) => OUT_OF_MEMORY,
     }
 }
 

@@ -6,7 +6,8 @@ ghost use Rattle.json_model.specs.Nest.{nest};
 ghost use Rattle.json_model.specs.Tree.{Tree};
 ghost use Rattle.jsonb_layout.specs.Stands.{Stands};
 ghost use Rattle.flat_keywords.specs.Validity.{ChecksFreely, IsLean, IsValid};
-ghost use Rattle.judge_c.specs.Answers.{IsGiven, IsRightAnswer, out_of_memory};
+ghost use Rattle.judge_c.specs.Answers.{IsGiven, IsRightAnswer};
+ghost use Rattle.judge_c.specs.Codes.{out_of_memory};
 
 use crate::answer::JudgeAnswer;
 use flat_keywords::{JudgeError, judge};

@@ -23,8 +23,20 @@ pub fn text_of(bytes: &[u8]) -> &str
     unsafe { str::from_utf8_unchecked(bytes) }
 }
 
-/// Whether the bytes are UTF-8.
-#[tactic(auto, using(crate::proofs::Texts::text_true, crate::proofs::Texts::text_false, crate::proofs::Texts::ascii_text))]
+/// Whether the bytes are UTF-8, by their characters.
+#[tactic(auto, using(crate::proofs::Texts::text_true, crate::proofs::Texts::text_false))]
+#[inline(never)]
+fn is_decoded(bytes: &[u8]) -> bool
+    ensures { result ≡ is_utf8 bytes.now }
+{
+    match str::from_utf8(bytes) {
+        Ok(_) => true,
+        Err(_) => false,
+    }
+}
+
+/// Whether the bytes are UTF-8, as all that are ASCII are.
+#[tactic(auto, using(crate::proofs::Texts::ascii_text))]
 #[inline(never)]
 pub fn is_text(bytes: &[u8]) -> bool
     ensures { result ≡ is_utf8 bytes.now }
@@ -32,10 +44,7 @@ pub fn is_text(bytes: &[u8]) -> bool
     if is_ascii(bytes) {
         return true;
     }
-    match str::from_utf8(bytes) {
-        Ok(_) => true,
-        Err(_) => false,
-    }
+    is_decoded(bytes)
 }
 
 fn all_zero(bytes: &[u8]) -> bool

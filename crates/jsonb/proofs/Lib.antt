@@ -1,8 +1,13 @@
 pub mod Texts
 pub mod Groups
+pub mod SmallNumbers
 pub mod FoundLaws
 pub mod KeyLoop
+pub mod KeyBytes
+pub mod KeyEnds
 pub mod Walks
+pub mod Passages
+pub mod Scalars
 pub mod LeapLaws
 pub mod FrameLaws
 pub mod AdvanceLaws

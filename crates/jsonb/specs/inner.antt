@@ -7,3 +7,4 @@ pub mod Groups
 pub mod Frames
 pub mod Reads
 pub mod Canonical
+pub mod Widths

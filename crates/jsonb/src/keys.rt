@@ -1,21 +1,67 @@
 //! The keys of an object.
 
-ghost use Rattle.std.specs.Prelude.{◌≡◌, ◌==◌, ◌&&◌, None, option_map};
+ghost use Rattle.std.specs.Prelude.{◌≡◌, ◌==◌, ◌&&◌, ◌≤◌, length, None, Some, option_map};
 ghost use Rattle.json_model.specs.Keys.{bytes_before, key_before};
 ghost use Rattle.jsonb_layout.specs.inner.Reading.{follows, keys_at};
 ghost use Rattle.jsonb.specs.Found.{nothing, keys_after};
+ghost use Rattle.jsonb.specs.inner.Keys.{keys_end, first_eight};
 ghost use Rattle.jsonb.specs.inner.Views.{place, found_then_place};
 
+use crate::ascii::is_ascii;
 use crate::found::Found;
 use crate::item::Item;
+use crate::passage::Passage;
 use crate::place::Place;
 use crate::scalar::is_text;
 use crate::walk::next_item;
 
-fn bytes_come_before(a: &[u8], b: &[u8]) -> bool
+/// Whether bytes come before others, byte by byte.
+fn last_bytes_come_before(a: &[u8], b: &[u8]) -> bool
     ensures { result ≡ bytes_before a.now b.now }
 {
     a < b
+}
+
+/// The first eight bytes as one number, of which the first counts most.
+fn first_eight(bytes: &[u8]) -> u64
+    requires { 8 ≤ length bytes.now }
+    ensures { result ≡ first_eight bytes.now }
+{
+    u64::from_be_bytes([
+        bytes[0], bytes[1], bytes[2], bytes[3], bytes[4], bytes[5], bytes[6], bytes[7],
+    ])
+}
+
+/// Whether bytes come before others, eight at a time.
+#[inline(never)]
+fn long_bytes_come_before(a: &[u8], b: &[u8]) -> bool
+    ensures { result ≡ bytes_before a.now b.now }
+{
+    let (mut x, mut y) = (a, b);
+    while x.len().min(y.len()) >= 8 {
+        let v = first_eight(x);
+        let w = first_eight(y);
+        if v != w {
+            return v < w;
+        }
+        x = &x[8..];
+        y = &y[8..];
+    }
+    last_bytes_come_before(x, y)
+}
+
+/// Whether bytes come before others: mostly their first eight tell.
+fn bytes_come_before(a: &[u8], b: &[u8]) -> bool
+    ensures { result ≡ bytes_before a.now b.now }
+{
+    if a.len().min(b.len()) >= 8 {
+        let v = first_eight(a);
+        let w = first_eight(b);
+        if v != w {
+            return v < w;
+        }
+    }
+    long_bytes_come_before(a, b)
 }
 
 /// Whether a key comes before another: a shorter one does, and of two of one length the one with the lower bytes.
@@ -43,8 +89,63 @@ fn is_key(before: Option<&[u8]>, item: &Item<'_>) -> bool
     item.is_string() && rises(before, item.piece())
 }
 
-/// What is found in so many keys, and where they end. None where one of them is no key or does not rise.
+/// Whether an item is a key that comes after another.
+fn is_later_key(before: &[u8], item: &Item<'_>) -> bool
+    ensures { result ≡ (item.now.kind == 0 && follows (Some before.now) item.now.piece) }
+{
+    item.is_string() && comes_before(before, item.piece())
+}
+
+/// Where so many keys end that come after one. None where one of them is no key or does not rise.
+fn later_keys_end<'a>(count: usize, first: &[u8], start: Place<'a>) -> Option<Place<'a>>
+    ensures { option_map place result
+        ≡ keys_end (keys_at count (Some first.now) (place start.entry)) }
+{
+    let mut current = Passage::new(start);
+    let mut before = first;
+    for _ in 0..count {
+        let (item, behind) = current.next_item()?;
+        if !is_later_key(before, &item) {
+            return None;
+        }
+        before = item.piece();
+        current = behind;
+    }
+    Some(current.place())
+}
+
+/// Where so many keys end. None where one of them is no key or does not rise.
+#[tactic(auto, unfolding(jsonb_layout::specs::inner::Reading::keys_at))]
+fn all_keys_end(count: usize, start: Place<'_>) -> Option<Place<'_>>
+    ensures { option_map place result ≡ keys_end (keys_at count None (place start.entry)) }
+{
+    if count == 0 {
+        return Some(start);
+    }
+    let (first, behind) = next_item(start)?;
+    if !first.is_string() {
+        return None;
+    }
+    later_keys_end(count - 1, first.piece(), behind)
+}
+
+/// What is found in so many keys that lie between two places, and where they end. None where one of them is no key or does not rise.
+/// The keys lie side by side, so that one look tells whether all are ASCII.
 pub fn key_faults(count: usize, start: Place<'_>) -> Option<(Found, Place<'_>)>
+    ensures { option_map found_then_place result
+        ≡ keys_after nothing (keys_at count None (place start.entry)) }
+{
+    let end = all_keys_end(count, start)?;
+    let length = start.rest.len().saturating_sub(end.rest.len());
+    let (keys, _) = start.rest.split_at(length);
+    if is_ascii(keys) {
+        return Some((Found::NOTHING, end));
+    }
+    faults_by_key(count, start)
+}
+
+/// What is found in so many keys, key by key.
+fn faults_by_key(count: usize, start: Place<'_>) -> Option<(Found, Place<'_>)>
     ensures { option_map found_then_place result
         ≡ keys_after nothing (keys_at count None (place start.entry)) }
 {

@@ -36,6 +36,7 @@
 #![tactic(auto)]
 
 mod array;
+mod ascii;
 mod buffer;
 mod canonical;
 mod cursor;
@@ -59,10 +60,12 @@ mod number;
 mod numeric;
 mod object;
 mod opening;
+mod passage;
 mod place;
 mod root;
 mod scalar;
 mod search;
+mod small;
 mod steps;
 mod walk;
 

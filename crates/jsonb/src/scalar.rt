@@ -5,7 +5,9 @@ ghost use Rattle.std.specs.List.{list_all};
 ghost use Rattle.std.specs.Str.{is_utf8};
 ghost use Rattle.jsonb_layout.specs.inner.Reading.{unpadded, scalar_of};
 ghost use Rattle.jsonb.specs.Found.{scalar_found};
+ghost use Rattle.jsonb.specs.inner.Widths.{width_found, number_found};
 
+use crate::ascii::is_ascii;
 use crate::found::Found;
 use crate::item::Item;
 use crate::kind::Kind;
@@ -21,15 +23,28 @@ pub fn text_of(bytes: &[u8]) -> &str
     unsafe { str::from_utf8_unchecked(bytes) }
 }
 
-/// Whether the bytes are UTF-8.
+/// Whether the bytes are UTF-8, by their characters.
 #[tactic(auto, using(crate::proofs::Texts::text_true, crate::proofs::Texts::text_false))]
-pub fn is_text(bytes: &[u8]) -> bool
+#[inline(never)]
+fn is_decoded(bytes: &[u8]) -> bool
     ensures { result ≡ is_utf8 bytes.now }
 {
     match str::from_utf8(bytes) {
         Ok(_) => true,
         Err(_) => false,
     }
+}
+
+/// Whether the bytes are UTF-8, as all that are ASCII are.
+#[tactic(auto, using(crate::proofs::Texts::ascii_text))]
+#[inline(never)]
+pub fn is_text(bytes: &[u8]) -> bool
+    ensures { result ≡ is_utf8 bytes.now }
+{
+    if is_ascii(bytes) {
+        return true;
+    }
+    is_decoded(bytes)
 }
 
 fn all_zero(bytes: &[u8]) -> bool
@@ -52,6 +67,29 @@ pub fn unpad(at: usize, piece: &[u8]) -> Option<&[u8]>
     if all_zero(front) { Some(rest) } else { None }
 }
 
+/// What a piece is as a number.
+#[derive(Clone, Copy)]
+pub enum Width {
+    NoNumber,
+    Narrow,
+    Wide,
+}
+
+/// What a piece at a place is as a number.
+fn number_width(at: usize, piece: &[u8]) -> Width
+    requires { length piece.now < 2 ^ 28 }
+    ensures { width_found result ≡ number_found at piece.now }
+{
+    let Some(bytes) = unpad(at, piece) else {
+        return Width::NoNumber;
+    };
+    match narrow_number(bytes) {
+        Some(true) => Width::Narrow,
+        Some(false) => Width::Wide,
+        None => Width::NoNumber,
+    }
+}
+
 /// What is found in a scalar's item at a place. None where the item stands for no scalar.
 #[tactic(auto, unfolding(jsonb_layout::specs::inner::Reading::scalar_of))]
 pub fn scalar_faults(at: usize, item: &Item<'_>) -> Option<Found>
@@ -63,14 +101,14 @@ pub fn scalar_faults(at: usize, item: &Item<'_>) -> Option<Found>
             not_text: !is_text(piece),
             wide: false,
         }),
-        Kind::Number => {
-            let bytes = unpad(at, piece)?;
-            let narrow = narrow_number(bytes)?;
-            Some(Found {
+        Kind::Number => match number_width(at, piece) {
+            Width::NoNumber => None,
+            Width::Narrow => Some(Found::NOTHING),
+            Width::Wide => Some(Found {
                 not_text: false,
-                wide: !narrow,
-            })
-        }
+                wide: true,
+            }),
+        },
         Kind::False | Kind::True | Kind::Null => {
             if piece.is_empty() {
                 Some(Found::NOTHING)

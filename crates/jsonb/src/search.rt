@@ -9,7 +9,7 @@ ghost use Rattle.json_model.specs.Tree.{Tree};
 ghost use Rattle.json_model.specs.Nest.{nest};
 ghost use Rattle.jsonb_layout.specs.inner.Trees.{read, item_tree};
 ghost use Rattle.jsonb.specs.Found.{tree_found};
-ghost use Rattle.jsonb.specs.inner.Frames.{combine, container_found, frame_found, frames_found, entered, taken, HoldsScalars, frame_weight, frames_weight, next_weight, IsInside, SuspendCause, MovesTo, Searched};
+ghost use Rattle.jsonb.specs.inner.Frames.{combine, container_found, frame_found, frames_found, entered, taken, HoldsScalars, frame_weight, frames_weight, next_weight, IsInside, SuspendCause, Shortens, MovesTo, Searched};
 
 use crate::error::JsonbError;
 use crate::found::Found;
@@ -17,6 +17,7 @@ use crate::frame::Frame;
 use crate::item::Item;
 use crate::keys::key_faults;
 use crate::opening::open;
+use crate::passage::Passage;
 use crate::scalar::{scalar_faults, unpad};
 use crate::walk::next_item;
 use jsonb_layout::Form;
@@ -79,8 +80,33 @@ fn suspend<'a>(frame: Frame<'a>, suspended: &mut Vec<Frame<'a>>) -> Result<(), J
     }
 }
 
+/// Reads the values of a frame that stand in front of the first container, and answers what was found in them and what is left.
+fn scalars(frame: Frame<'_>) -> Option<(Found, Frame<'_>)>
+    ensures found { frame_found frame.entry ≡ entered result }
+    ensures shorter { IfSome result (λ r. Shortens frame.entry r.1) }
+{
+    let count = frame.left;
+    let mut current = Passage::new(frame.start);
+    let mut found = Found::NOTHING;
+    let mut passed = 0;
+    while passed < count {
+        let (item, behind) = current.next_item()?;
+        if item.is_container() {
+            break;
+        }
+        found = found.with(scalar_faults(current.at(), &item)?);
+        current = behind;
+        passed += 1;
+    }
+    let rest = Frame {
+        left: count - passed,
+        start: current.place(),
+    };
+    Some((found, rest))
+}
+
 /// Reads the next value of a frame, and answers what was found in it and which frame is next.
-fn advance<'a>(
+fn step<'a>(
     frame: Frame<'a>,
     suspended: &mut Vec<Frame<'a>>,
 ) -> Result<(Found, Option<Frame<'a>>), JsonbError>
@@ -108,6 +134,22 @@ fn advance<'a>(
     };
     suspend(rest, suspended)?;
     Ok((found, Some(inside)))
+}
+
+/// Reads the values of a frame up to a container or to its end, and answers what was found and which frame is next.
+fn advance<'a>(
+    frame: Frame<'a>,
+    suspended: &mut Vec<Frame<'a>>,
+) -> Result<(Found, Option<Frame<'a>>), JsonbError>
+    ensures { MovesTo frame.entry suspended.old.items suspended.new.items result }
+{
+    let Some((found, rest)) = scalars(frame) else {
+        return Err(JsonbError::Malformed);
+    };
+    match step(rest, suspended) {
+        Ok((more, next)) => Ok((found.with(more), next)),
+        Err(error) => Err(error),
+    }
 }
 
 /// What is found in a container with all those in it.

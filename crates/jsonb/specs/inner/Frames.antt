@@ -65,6 +65,11 @@ abbrev pub next_weight : Option Frame → ℕ
 next_weight None = 0
 next_weight (Some f) = frame_weight f
 
+-- what is left of a frame whose first values were read
+pub record Shortens (frame rest : Frame) : Type 0 where
+  pub lighter : frame_weight rest ≤ frame_weight frame
+  pub flat : (g : Found) → frame_found frame ≡ Some g → HoldsScalars frame → HoldsScalars rest
+
 -- ---- what code answers
 
 -- an item that is no scalar

@@ -21,9 +21,9 @@ use Rattle.pattern_model.proofs.BoolLaws.{and_left, and_right}
 use Rattle.rust_pattern_model.specs.Refusals.{is_plain_name}
 use Rattle.rust_pattern_model.specs.RustClasses.{escape, rust_class_has}
 use Rattle.rust_pattern_model.specs.RustPatterns.{is_syntax, character, ReadsSet, ReadsTimes, ReadsToken, ReadsTokens}
-use Rattle.rust_pattern_model.proofs.Alone.{none_some, pair_same}
+use Rattle.rust_pattern_model.proofs.Alone.{found, true_false, none_some, pair_same}
 use Rattle.rust_pattern_model.proofs.TokenReads.{no_syntax}
-use Rattle.rust_pattern_model.proofs.OneReading.{true_false, class_once}
+use Rattle.rust_pattern_model.proofs.OneReading.{class_once}
 
 -- the same token, or two classes with the same members and no property escapes
 pub data AlikeToken : Token → Token → Type 0 where
@@ -152,9 +152,6 @@ plain_sort d x e =
     ∙ (past (d == 40) _ _ (no_syntax d 40 refl e) ∙ (past (d == 41) _ _ (no_syntax d 41 refl e) ∙ (past (d == 124) _ _ (no_syntax d 124 refl e)
     ∙ (past (d == 42) _ _ (no_syntax d 42 refl e) ∙ (past (d == 43) _ _ (no_syntax d 43 refl e) ∙ (past (d == 63) _ _ (no_syntax d 63 refl e)
     ∙ past (d == 123) _ _ (no_syntax d 123 refl e)))))))))
-
-abbrev found : ℕ → Text → Option (ℕ × Text)
-found c x = Some (c, x)
 
 code_sort : (c : ℕ) (y r : Text) → character y ≡ Some (c, r) → sort_at y ≡ 1
 code_sort c [] r e = absurd (none_some e)

@@ -20,6 +20,13 @@ pub record Alone {A : Type 0} (read : Text → Option (A × Text)) (x : Text) (a
   pub again : (rest : Text) → read (own ++ rest) ≡ Some (a, rest)
   pub calm : list_all is_calm own ≡ true
 
+-- a number, and what follows it
+abbrev pub found : ℕ → Text → Option (ℕ × Text)
+found c x = Some (c, x)
+
+pub true_false : true ≡ false → ⊥
+true_false e = cc
+
 pub none_some : {A : Type 0} {a : A} → None ≡ Some a → ⊥
 none_some e = cc
 

@@ -17,9 +17,9 @@ use Rattle.pattern_model.specs.Letters.{is_ascii_letter, is_alphanumeric, is_num
 use Rattle.pattern_model.specs.Escapes.{control, itself, character_escape}
 use Rattle.rust_pattern_model.specs.Refusals.{is_surrogate, has_surrogate, names_surrogate, is_other_escape}
 use Rattle.rust_pattern_model.specs.Written.{control_of, code_written}
-use Rattle.rust_pattern_model.specs.RustClasses.{is_punctuation, letter_escape, if_scalar, number_escape, escape}
+use Rattle.rust_pattern_model.specs.RustClasses.{is_punctuation, letter_escape, if_scalar_value, number_escape, escape}
 use Rattle.rust_pattern_model.proofs.Shown.{Shown}
-use Rattle.rust_pattern_model.proofs.Alone.{Alone, none_some, pair_same, hex_alone, hex_below, code_point_alone, front_same}
+use Rattle.rust_pattern_model.proofs.Alone.{Alone, found, true_false, none_some, pair_same, hex_alone, hex_below, code_point_alone, front_same}
 
 -- the character is none of those that begin an escape of their own: f n r t v c 0 x u
 pub record IsOther (d : ℕ) : Type 0 where
@@ -56,9 +56,6 @@ by_character d P a b e f g h i j k other =
 
     skip : (t : Bool) (p q : Option (ℕ × Text)) → t ≡ false → (if t then p else q) ≡ q
     skip true p q e = absurd (true_false e)
-      where
-        true_false : true ≡ false → ⊥
-        true_false e = cc
     skip false p q e = refl
 
 -- what stands before the same end is the same
@@ -125,12 +122,8 @@ punctuation d a b e f =
 scalar_from : (n : ℕ) → n ≤ 1114111 → is_surrogate n ≡ false → scalar n ≡ true
 scalar_from n h e = grind (arith, nat_tests)
 
-if_scalar_is : (n : ℕ) (x : Text) → scalar n ≡ true → if_scalar (n, x) ≡ Some (n, x)
-if_scalar_is n x e = ap (λ b. if b then Some (n, x) else None) e
-
--- a number, and what follows it
-abbrev found : ℕ → Text → Option (ℕ × Text)
-found v x = Some (v, x)
+scalar_is : (n : ℕ) (x : Text) → scalar n ≡ true → if_scalar_value (n, x) ≡ Some (n, x)
+scalar_is n x e = ap (λ b. if b then Some (n, x) else None) e
 
 -- an escape of one letter
 by_letter : (d c v : ℕ) (x y own : Text) → ((rest : Text) → escape (d ∷ rest) ≡ found v rest) → found v x ≡ found c y →
@@ -164,9 +157,9 @@ digits_read : (k c : ℕ) (x y rest : Text) (r : Alone (hex_from k 0) x c y) →
     number_escape k (r.own ++ rest) ≡ Some (c, rest)
 unfolding number_escape hex
 digits_read k c x y rest r n full s =
-    ap (λ b. option_and_then if_scalar (if b then code_point (drop 1 (r.own ++ rest)) else hex_from k 0 (r.own ++ rest)))
+    ap (λ b. option_and_then if_scalar_value (if b then code_point (drop 1 (r.own ++ rest)) else hex_from k 0 (r.own ++ rest)))
     (front_same 123 r.own rest y full ∙ (sym (ap (is_at 123) r.stands) ∙ n))
-    ∙ (ap (option_and_then if_scalar) (r.again rest) ∙ if_scalar_is c rest s)
+    ∙ (ap (option_and_then if_scalar_value) (r.again rest) ∙ scalar_is c rest s)
 
 -- digits are there
 some_digits : (k c : ℕ) (x y : Text) (r : Alone (hex_from (suc k) 0) x c y) → r.own ≡ [] → ⊥
@@ -197,7 +190,7 @@ unfolding escape number_escape
 by_braces c x y own e n f =
     let (r, low) = code_point_alone c x y e in
     Shown.behind (117 ∷ (123 ∷ r.own)) (append_cancel_right own (92 ∷ (117 ∷ (123 ∷ r.own))) y (sym f ∙ ap (λ z. 92 ∷ (117 ∷ (123 ∷ z))) r.stands))
-    (λ rest. ap (option_and_then if_scalar) (r.again rest) ∙ if_scalar_is c rest (scalar_from c low n))
+    (λ rest. ap (option_and_then if_scalar_value) (r.again rest) ∙ scalar_is c rest (scalar_from c low n))
 
 by_four : (c : ℕ) (x y own : Text) → hex_from 4 0 x ≡ Some (c, y) → is_surrogate c ≡ false → 92 ∷ (117 ∷ x) ≡ own ++ y → Shown c own
 unfolding hex escape

@@ -17,7 +17,7 @@ use Rattle.pattern_model.specs.Escapes.{control, itself, character_escape}
 use Rattle.pattern_model.specs.GroupNames.{if_scalar, is_scalar, name_character, starts_name, goes_on_name, if_part, name_start, name_part, name_parts, past_bracket, name}
 use Rattle.pattern_model.proofs.BoolLaws.{and_left, and_right, and_true}
 use Rattle.rust_pattern_model.specs.Refusals.{has_surrogate, names_surrogate, is_other_escape, has_other_escape}
-use Rattle.rust_pattern_model.proofs.Alone.{is_calm, is_calm_if, Alone, none_some, some_same, pair_same, hex_alone, code_point_alone}
+use Rattle.rust_pattern_model.proofs.Alone.{is_calm, is_calm_if, Alone, found, none_some, some_same, pair_same, hex_alone, code_point_alone}
 use Rattle.rust_pattern_model.proofs.EscapeReads.{by_character, not_paired, no_surrogate}
 
 pub or_left : (a b : Bool) → a || b ≡ false → a ≡ false
@@ -104,9 +104,6 @@ calm_by test c e f g h = is_calm_if c (no 92 e) (no 91 f) (no 93 g)
   where
     no : (d : ℕ) → test d ≡ false → c ≡ d → ⊥
     no d i j = let k : true ≡ false = sym h ∙ (ap test j ∙ i) in cc
-
-abbrev found : ℕ → Text → Option (ℕ × Text)
-found v x = Some (v, x)
 
 letter_behind : (c v : ℕ) (x y : Text) → found v x ≡ found c y → Behind x y
 letter_behind c v x y e = at_once x y (pair_same v c x y e).1

@@ -3,6 +3,7 @@ use Rattle.std.proofs.Common.{◌≡◌, ℕ, Bool, true, false, not, List, [], 
 use Rattle.std.specs.Prelude.{codes, ◌||◌, ◌==◌, nat_le}
 use Rattle.std.proofs.lemmas.Bool.Decides.{nat_tests}
 use Rattle.std.specs.List.{list_all}
+use Rattle.std.proofs.Math.Bool.{or-false}
 use Rattle.pattern_model.specs.Text.{Text, is_at}
 use Rattle.pattern_model.specs.Tree.{Escape, Item}
 use Rattle.pattern_model.specs.Digits.{is_digit, hex}
@@ -173,10 +174,6 @@ escape_front d Escape.space rest o = o
 escape_front d Escape.not_space rest o = o
 
 -- members
-or_false : (a : Bool) → a || false ≡ a
-or_false true = refl
-or_false false = refl
-
 or_assoc : (a b c : Bool) → a || (b || c) ≡ (a || b) || c
 or_assoc true b c = refl
 or_assoc false b c = refl
@@ -188,19 +185,19 @@ alone : (n c : ℕ) → is_within n n c ≡ c == n
 alone n c = grind (arith, nat_tests)
 
 digits_have : (c : ℕ) → some_has digits c ≡ is_digit c
-digits_have c = or_false (is_digit c)
+digits_have c = or-false (is_digit c)
 
 words_have : (c : ℕ) → some_has words c ≡ is_word c
 words_have c =
     or_assoc (is_within 65 90 c) (is_within 97 122 c) (is_within 48 57 c || (c == 95 || false))
-    ∙ ap (λ z. (is_within 65 90 c || is_within 97 122 c) || (is_digit c || z)) (or_false (c == 95))
+    ∙ ap (λ z. (is_within 65 90 c || is_within 97 122 c) || (is_digit c || z)) (or-false (c == 95))
 
 spaces_have : (c : ℕ) → some_has (ranges_items space_ranges) c ≡ is_space c
 unfolding is_space
 spaces_have c =
     ap (λ z. is_within 9 13 c || z) (or_same (alone 32 c) (or_same (alone 160 c) (or_same (alone 5760 c)
     (ap (λ z. is_within 8192 8202 c || z) (ap (λ z. is_within 8232 8233 c || z) (or_same (alone 8239 c) (or_same (alone 8287 c)
-    (or_same (alone 12288 c) (or_false (is_within 65279 65279 c) ∙ alone 65279 c)))))))))
+    (or_same (alone 12288 c) (or-false (is_within 65279 65279 c) ∙ alone 65279 c)))))))))
 
 small_has : (e : Escape) (c : ℕ) → some_has (items_of e) c ≡ item_has (small e) c
 small_has Escape.digit c = digits_have c
@@ -221,8 +218,8 @@ set_has Escape.not_space c = ap not (spaces_have c)
 
 same_set : (negated : Bool) (i : Item) (inner : Items) (c : ℕ) → some_has inner c ≡ item_has i c →
     rust_class_has negated inner c ≡ class_has negated (i ∷ []) c
-same_set true i inner c e = ap not (e ∙ sym (or_false (item_has i c)))
-same_set false i inner c e = e ∙ sym (or_false (item_has i c))
+same_set true i inner c e = ap not (e ∙ sym (or-false (item_has i c)))
+same_set false i inner c e = e ∙ sym (or-false (item_has i c))
 
 small_plain : (e : Escape) → list_all is_no_property (small e ∷ []) ≡ true
 small_plain Escape.digit = refl

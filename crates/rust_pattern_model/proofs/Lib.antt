@@ -14,3 +14,5 @@ pub mod QuantifierReads
 pub mod TokenReads
 pub mod TextReads
 pub mod OneReading
+pub mod TokensOnce
+pub mod OneTree

@@ -2,10 +2,7 @@
 use Rattle.std.proofs.Common.{◌≡◌, ℕ, Bool, true, false, ◌∷◌, drop, Some, refl, ap, sym, ◌∙◌, subst}
 use Rattle.pattern_model.specs.Text.{Text, is_at}
 use Rattle.rust_pattern_model.specs.RustClasses.{Items, atom, BeginsItem, has_range, Opens, ReadsItems, ReadsClass}
-use Rattle.rust_pattern_model.proofs.Alone.{none_some, pair_same}
-
-pub true_false : true ≡ false → ⊥
-true_false e = cc
+use Rattle.rust_pattern_model.proofs.Alone.{true_false, none_some, pair_same}
 
 -- a class that ends here has no item here
 closed : (y r : Text) → y ≡ 93 ∷ r → BeginsItem y → ⊥

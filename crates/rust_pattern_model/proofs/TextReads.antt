@@ -2,6 +2,7 @@
 use Rattle.std.proofs.Common.{◌≡◌, Bool, true, false, not, List, [], ◌∷◌, map, Some, None, refl, ap, sym, ◌∙◌, subst}
 use Rattle.std.specs.Prelude.{if◌then◌else◌, ◌||◌, nat_lt}
 use Rattle.std.specs.List.{list_all}
+use Rattle.std.proofs.Math.Bool.{or-false}
 use Rattle.pattern_model.specs.Text.{Text, is_at}
 use Rattle.pattern_model.specs.Members.{leaf_has}
 use Rattle.pattern_model.specs.Tree.{Escape, Leaf, Mark, Bounds, Tree, Token, tokens_of, Level, is_assertion, is_look}
@@ -15,18 +16,14 @@ use Rattle.rust_pattern_model.proofs.TreeMaps.{map_token, map_tree, tokens_map, 
 use Rattle.rust_pattern_model.proofs.EscapeSets.{is_capital, small}
 use Rattle.rust_pattern_model.proofs.TokenReads.{rust_leaf, Kept, token_passes}
 
-or_none : (b : Bool) → b || false ≡ b
-or_none true = refl
-or_none false = refl
-
 -- a class escape has the members of its class
 escape_alike : (e : Escape) → AlikeLeaf (Leaf.escape e) (Leaf.class (is_capital e) (small e ∷ []))
-escape_alike Escape.digit = AlikeLeaf.sets refl refl (λ c. sym (or_none (leaf_has (Leaf.escape Escape.digit) c)))
-escape_alike Escape.not_digit = AlikeLeaf.sets refl refl (λ c. ap not (sym (or_none (leaf_has (Leaf.escape Escape.digit) c))))
-escape_alike Escape.space = AlikeLeaf.sets refl refl (λ c. sym (or_none (leaf_has (Leaf.escape Escape.space) c)))
-escape_alike Escape.not_space = AlikeLeaf.sets refl refl (λ c. ap not (sym (or_none (leaf_has (Leaf.escape Escape.space) c))))
-escape_alike Escape.word = AlikeLeaf.sets refl refl (λ c. sym (or_none (leaf_has (Leaf.escape Escape.word) c)))
-escape_alike Escape.not_word = AlikeLeaf.sets refl refl (λ c. ap not (sym (or_none (leaf_has (Leaf.escape Escape.word) c))))
+escape_alike Escape.digit = AlikeLeaf.sets refl refl (λ c. sym (or-false (leaf_has (Leaf.escape Escape.digit) c)))
+escape_alike Escape.not_digit = AlikeLeaf.sets refl refl (λ c. ap not (sym (or-false (leaf_has (Leaf.escape Escape.digit) c))))
+escape_alike Escape.space = AlikeLeaf.sets refl refl (λ c. sym (or-false (leaf_has (Leaf.escape Escape.space) c)))
+escape_alike Escape.not_space = AlikeLeaf.sets refl refl (λ c. ap not (sym (or-false (leaf_has (Leaf.escape Escape.space) c))))
+escape_alike Escape.word = AlikeLeaf.sets refl refl (λ c. sym (or-false (leaf_has (Leaf.escape Escape.word) c)))
+escape_alike Escape.not_word = AlikeLeaf.sets refl refl (λ c. ap not (sym (or-false (leaf_has (Leaf.escape Escape.word) c))))
 
 leaf_alike : (l : Leaf) → AlikeLeaf l (rust_leaf l)
 leaf_alike (Leaf.escape e) = escape_alike e

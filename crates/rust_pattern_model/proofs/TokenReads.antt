@@ -23,7 +23,7 @@ use Rattle.rust_pattern_model.specs.Translation.{WritesClass, token_written, Wri
 use Rattle.rust_pattern_model.specs.RustClasses.{escape}
 use Rattle.rust_pattern_model.specs.RustPatterns.{is_syntax, character, ReadsToken}
 use Rattle.rust_pattern_model.proofs.Shown.{is_quiet, Shown}
-use Rattle.rust_pattern_model.proofs.Alone.{is_calm, none_some, some_same}
+use Rattle.rust_pattern_model.proofs.Alone.{is_calm, true_false, none_some, some_same}
 use Rattle.rust_pattern_model.proofs.EscapeReads.{escape_shown}
 use Rattle.rust_pattern_model.proofs.EscapeScan.{or_right, past_other, past_all_calm, escape_passed, name_passed}
 use Rattle.rust_pattern_model.proofs.TreeMaps.{map_token, token_part}
@@ -76,9 +76,6 @@ copied_at c d x o h e = subst (λ z. Copied z x o) (sym (code_is c d e)) h
 refused : (c : ℕ) (x : Text) (p : Token × Text) → (Kept p.0 → ⊥) → Copied c x (Some p)
 refused c x p h own e n k = absurd (h k)
 
-set_true : true ≡ false → ⊥
-set_true e = cc
-
 -- a token whose own text is copied
 own_text : (c : ℕ) (x y front : Text) (t : Token) → x ≡ front ++ y → ((own : Text) → token_written t (c ∷ x) own ≡ own) →
     (has_other_escape false (c ∷ x) ≡ false → has_other_escape false y ≡ false) →
@@ -128,8 +125,8 @@ named_copied x y n e own f g k = record {
 bracketed_copied : (x : Text) → Copied 40 (63 ∷ (60 ∷ x)) (bracketed x)
 unfolding bracketed
 bracketed_copied x =
-    copied_if 40 (63 ∷ (60 ∷ x)) (is_at 61 x) _ _ (λ e. refused 40 (63 ∷ (60 ∷ x)) (opens Mark.behind (drop 1 x)) (λ k. set_true k.no_look)) (λ e1.
-    copied_if 40 (63 ∷ (60 ∷ x)) (is_at 33 x) _ _ (λ e. refused 40 (63 ∷ (60 ∷ x)) (opens Mark.not_behind (drop 1 x)) (λ k. set_true k.no_look))
+    copied_if 40 (63 ∷ (60 ∷ x)) (is_at 61 x) _ _ (λ e. refused 40 (63 ∷ (60 ∷ x)) (opens Mark.behind (drop 1 x)) (λ k. true_false k.no_look)) (λ e1.
+    copied_if 40 (63 ∷ (60 ∷ x)) (is_at 33 x) _ _ (λ e. refused 40 (63 ∷ (60 ∷ x)) (opens Mark.not_behind (drop 1 x)) (λ k. true_false k.no_look))
     (λ e2.
     copied_map 40 (63 ∷ (60 ∷ x)) (λ p. opens (Mark.named p.0) p.1) (name x) (λ p e. named_copied x p.1 p.0 e)))
 
@@ -138,11 +135,11 @@ unfolding marked
 marked_copied x =
     copied_if 40 (63 ∷ x) (is_at 58 x) _ _ (λ e. calm_text 40 (63 ∷ x) (drop 1 x) (63 ∷ (58 ∷ [])) (Token.opens Mark.plain)
     (ap (λ z. 63 ∷ z) (at_first 58 x e)) (λ own. refl) refl (λ k more q. refl)) (λ e1.
-    copied_if 40 (63 ∷ x) (is_at 61 x) _ _ (λ e. refused 40 (63 ∷ x) (opens Mark.ahead (drop 1 x)) (λ k. set_true k.no_look)) (λ e2.
-    copied_if 40 (63 ∷ x) (is_at 33 x) _ _ (λ e. refused 40 (63 ∷ x) (opens Mark.not_ahead (drop 1 x)) (λ k. set_true k.no_look)) (λ e3.
+    copied_if 40 (63 ∷ x) (is_at 61 x) _ _ (λ e. refused 40 (63 ∷ x) (opens Mark.ahead (drop 1 x)) (λ k. true_false k.no_look)) (λ e2.
+    copied_if 40 (63 ∷ x) (is_at 33 x) _ _ (λ e. refused 40 (63 ∷ x) (opens Mark.not_ahead (drop 1 x)) (λ k. true_false k.no_look)) (λ e3.
     copied_if 40 (63 ∷ x) (is_at 60 x) _ _
     (λ e. subst (λ z. Copied 40 (63 ∷ z) (bracketed (drop 1 x))) (sym (at_first 60 x e)) (bracketed_copied (drop 1 x))) (λ e4.
-    copied_map 40 (63 ∷ x) (opens Mark.modified) (flags x) (λ y e. refused 40 (63 ∷ x) (opens Mark.modified y) (λ k. set_true k.told))))))
+    copied_map 40 (63 ∷ x) (opens Mark.modified) (flags x) (λ y e. refused 40 (63 ∷ x) (opens Mark.modified y) (λ k. true_false k.told))))))
 
 opening_copied : (x : Text) → Copied 40 x (opening x)
 unfolding opening
@@ -167,7 +164,7 @@ pub no_syntax : (c d : ℕ) → is_syntax d ≡ true → is_syntax c ≡ false �
 no_syntax c d e f = go (c == d) refl
   where
     go : (b : Bool) → c == d ≡ b → b ≡ false
-    go true g = absurd (set_true (sym e ∙ (sym (ap is_syntax (code_is c d g)) ∙ f)))
+    go true g = absurd (true_false (sym e ∙ (sym (ap is_syntax (code_is c d g)) ∙ f)))
     go false g = refl
 
 plain_read : (c : ℕ) (more : Text) → is_syntax c ≡ false → character (c ∷ more) ≡ Some (c, more)
@@ -228,18 +225,18 @@ escaped_copied : (x : Text) → Copied 92 x (escaped x)
 unfolding escaped back_name
 escaped_copied [] = tt
 escaped_copied (d ∷ x) =
-    copied_if 92 (d ∷ x) (d == 98) _ _ (λ e. refused 92 (d ∷ x) (Token.leaf Leaf.boundary, x) (λ k. set_true k.told)) (λ e1.
-    copied_if 92 (d ∷ x) (d == 66) _ _ (λ e. refused 92 (d ∷ x) (Token.leaf Leaf.not_boundary, x) (λ k. set_true k.told)) (λ e2.
+    copied_if 92 (d ∷ x) (d == 98) _ _ (λ e. refused 92 (d ∷ x) (Token.leaf Leaf.boundary, x) (λ k. true_false k.told)) (λ e1.
+    copied_if 92 (d ∷ x) (d == 66) _ _ (λ e. refused 92 (d ∷ x) (Token.leaf Leaf.not_boundary, x) (λ k. true_false k.told)) (λ e2.
     copied_if 92 (d ∷ x) (d == 112) _ _ (λ e. property false) (λ e3.
     copied_if 92 (d ∷ x) (d == 80) _ _ (λ e. property true) (λ e4.
     copied_if 92 (d ∷ x) (d == 107) _ _ (λ e. copied_if 92 (d ∷ x) (is_at 60 x) _ _ (λ f. copied_map 92 (d ∷ x) leaf_of_name (name (drop 1 x))
-    (λ p g. refused 92 (d ∷ x) (leaf_of_name p) (λ k. set_true k.no_reference))) (λ f. tt)) (λ e5.
+    (λ p g. refused 92 (d ∷ x) (leaf_of_name p) (λ k. true_false k.no_reference))) (λ f. tt)) (λ e5.
     copied_if 92 (d ∷ x) (nat_le 49 d && nat_le d 57) _ _
-    (λ e. refused 92 (d ∷ x) (leaf_of_number (digits (d ∷ x))) (λ k. set_true k.no_reference)) (λ e6. set_or_code d x (class_escape d)))))))
+    (λ e. refused 92 (d ∷ x) (leaf_of_number (digits (d ∷ x))) (λ k. true_false k.no_reference)) (λ e6. set_or_code d x (class_escape d)))))))
   where
     property : (b : Bool) → Copied 92 (d ∷ x) (property_leaf b x)
     property b = copied_map 92 (d ∷ x) (λ y. (Token.leaf (Leaf.property b), y)) (past_property x)
-        (λ y e. refused 92 (d ∷ x) (Token.leaf (Leaf.property b), y) (λ k. set_true k.told))
+        (λ y e. refused 92 (d ∷ x) (Token.leaf (Leaf.property b), y) (λ k. true_false k.told))
 
 -- every token but a class
 all_copied : (c : ℕ) (x : Text) → c == 91 ≡ false → Copied c x (token_from true c x)
@@ -252,10 +249,10 @@ all_copied c x h =
     copied_if c x (c == 43) _ _ (times 43 (Count.number 1) None refl (λ z. refl)) (λ e5.
     copied_if c x (c == 63) _ _ (times 63 (Count.number 0) (Some (Count.number 1)) refl (λ z. refl)) (λ e6.
     copied_if c x (c == 123) _ _ (copied_at c 123 x (braces x) (counted (braces x) refl)) (λ e7.
-    copied_if c x (c == 46) _ _ (λ e. refused c x (Token.leaf Leaf.dot, x) (λ k. set_true k.told)) (λ e8.
+    copied_if c x (c == 46) _ _ (λ e. refused c x (Token.leaf Leaf.dot, x) (λ k. true_false k.told)) (λ e8.
     copied_if c x (c == 94) _ _ (alone 94 (Token.leaf Leaf.start) refl (λ own. refl) (λ more. refl)) (λ e9.
     copied_if c x (c == 36) _ _ (alone 36 (Token.leaf Leaf.end) refl (λ own. refl) (λ more. refl)) (λ e10.
-    copied_if c x (c == 91) _ _ (λ e. absurd (set_true (sym e ∙ h))) (λ e11.
+    copied_if c x (c == 91) _ _ (λ e. absurd (true_false (sym e ∙ h))) (λ e11.
     copied_if c x (c == 92) _ _ (copied_at c 92 x (escaped x) (escaped_copied x)) (λ e12.
     let plain = plain_copied c x (none e9 (none e10 (none e12 (none e8 (none e4 (none e5
     (none e6 (none e2 (none e3 (none e11 (none e7 e1))))))))))) in

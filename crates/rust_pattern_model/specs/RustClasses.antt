@@ -22,12 +22,12 @@ letter_escape c x =
     else if c == 118 then Some (11, x)
     else None
 
-abbrev pub if_scalar : ℕ × Text → Option (ℕ × Text)
-if_scalar p = if scalar p.0 then Some p else None
+abbrev pub if_scalar_value : ℕ × Text → Option (ℕ × Text)
+if_scalar_value p = if scalar p.0 then Some p else None
 
 -- A number: so many hex digits, or one or more between braces. It is that of a Unicode scalar value.
 unfoldable pub number_escape : ℕ → Text → Option (ℕ × Text)
-number_escape k x = option_and_then if_scalar (if is_at 123 x then code_point (drop 1 x) else hex k x)
+number_escape k x = option_and_then if_scalar_value (if is_at 123 x then code_point (drop 1 x) else hex k x)
 
 -- an escape, behind its backslash: the character that it stands for, and what follows it
 unfoldable pub escape : Text → Option (ℕ × Text)
@@ -50,11 +50,11 @@ pub data Items : Type 0 where
   range : ℕ → ℕ → Items → Items
   nested : Bool → Items → Items → Items
 
--- some item has the code point; of a nested class, its members
 abbrev pub flip : Bool → Bool → Bool
 flip true b = not b
 flip false b = b
 
+-- some item has the code point; a class in the class has its members
 abbrev pub some_has : Items → ℕ → Bool
 some_has none c = false
 some_has (one a more) c = c == a || some_has more c

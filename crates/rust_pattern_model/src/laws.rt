@@ -35,3 +35,8 @@ pub fn texts_keep_their_trees()
     ensures { (x w : Text) (h : Translates x w) → has_untold_part h.tree ≡ false →
         (u : Tree) × RustGrammar w u × Alike h.tree u }
 {}
+
+/// Two trees that a text has by Rust's grammar are alike.
+pub fn trees_of_a_text_are_alike()
+    ensures { (y : Text) (t u : Tree) → RustGrammar y t → RustGrammar y u → Alike t u }
+{}

@@ -1,6 +1,6 @@
 //! What is written for Rust in place of a pattern of ECMA-262, and how Rust reads it.
 //!
-//! There is no code here. `specs/` has the definitions, a file a concept, which `pattern_translation` cites:
+//! There is no code here that runs. `specs/` has the definitions, a file a concept, which `pattern_translation` cites:
 //!
 //! - `Refusals`: which patterns have no text for Rust, and why.
 //! - `Written` and `Translation`: what is written for an escape, a code point and an atom of a class, row by row, and how these
@@ -22,6 +22,12 @@
 //!   operations, and such a text is not read here.
 //!
 //! No other text is read here: not `.`, `\b`, `\B`, `\d`, `\p{L}` or `(?i:a)`.
+//!
+//! For example `[\w--]` is written as `[[A-Za-z0-9_]\-\-]`. By Rust's grammar that is a class of three items, one of them a class,
+//! and it has the same members. `proofs/Rows.antt` has more such rows.
+//!
+//! [`laws`] says that a text for Rust has a tree that is alike to the pattern's, that all trees of one text are alike, and that alike
+//! trees match the same parts of every text.
 #![tactic(auto)]
 
 pub mod laws;

@@ -1,5 +1,5 @@
 //! The program's run.
-ghost use Rattle.std.specs.Prelude.{◌≡◌, ◌⊎◌, ◌↔◌, ◌<◌, ◌^◌, ℕ, List, Some, length, map, string_bytes, IsTrue};
+ghost use Rattle.std.specs.Prelude.{[], ◌∷◌, ◌≡◌, ◌⊎◌, ◌↔◌, ◌<◌, ◌^◌, ℕ, List, Some, length, map, string_bytes, IsTrue};
 ghost use Rattle.judge.specs.Words.{IsCheck};
 ghost use Rattle.judge_tree_main.specs.Answers.{LineAnswer};
 ghost use Rattle.line_program.specs.Faults.{CountsOnce, Rose};
@@ -54,7 +54,17 @@ fn ask_check(words: &[String]) -> bool
 {
     match words {
         [] => true,
-        [word] => word.as_str() == "check",
+        [word] => asks_check(word.as_str()),
+        _ => false,
+    }
+}
+
+// Whether the word is `check`.
+fn asks_check(word: &str) -> bool
+    ensures { IsTrue result ↔ IsCheck (word.now ∷ []) }
+{
+    match word {
+        "check" => true,
         _ => false,
     }
 }

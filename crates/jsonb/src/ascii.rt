@@ -13,3 +13,15 @@ pub fn is_ascii(bytes: &[u8]) -> bool
     }
     highest < 128
 }
+
+/// Whether each byte is below 128, byte by byte, as suits short texts.
+pub fn is_short_ascii(bytes: &[u8]) -> bool
+    ensures { IsTrue result → IsAscii bytes.now }
+{
+    for index in 0..bytes.len() {
+        if bytes[index] >= 128 {
+            return false;
+        }
+    }
+    true
+}

@@ -21,9 +21,6 @@ impl Found {
     pub fn with(self, other: Found) -> Found
         ensures { result ≡ both self other }
     {
-        if !other.not_text && !other.wide {
-            return self;
-        }
         Found {
             not_text: self.not_text || other.not_text,
             wide: self.wide || other.wide,

@@ -7,7 +7,7 @@ ghost use Rattle.jsonb_layout.specs.inner.Reading.{unpadded, scalar_of};
 ghost use Rattle.jsonb.specs.Found.{scalar_found};
 ghost use Rattle.jsonb.specs.inner.Widths.{width_found, number_found};
 
-use crate::ascii::is_ascii;
+use crate::ascii::is_short_ascii;
 use crate::found::Found;
 use crate::item::Item;
 use crate::kind::Kind;
@@ -35,13 +35,12 @@ fn is_decoded(bytes: &[u8]) -> bool
     }
 }
 
-/// Whether the bytes are UTF-8, as all that are ASCII are.
+/// Whether the bytes are UTF-8. Most texts are short and ASCII, which is told without the decoder.
 #[tactic(auto, using(crate::proofs::Texts::ascii_text))]
-#[inline(never)]
 pub fn is_text(bytes: &[u8]) -> bool
     ensures { result ≡ is_utf8 bytes.now }
 {
-    if is_ascii(bytes) {
+    if bytes.len() < 32 && is_short_ascii(bytes) {
         return true;
     }
     is_decoded(bytes)

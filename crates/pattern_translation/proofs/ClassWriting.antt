@@ -11,6 +11,7 @@ use Rattle.pattern_model.specs.Classes.{Atom, item_of_atom, range_of, range_to, 
 use Rattle.pattern_model.proofs.PartTails.{After, short_holds, class_atom_short}
 use Rattle.pattern_model.proofs.PartLaws.{many_step, many_none, many_end, class_part_shrinks}
 use Rattle.pattern_model.proofs.TokenTails.{tails_of}
+use Rattle.rust_pattern_model.proofs.Alone.{some_same}
 use Rattle.rust_pattern_model.specs.Written.{atom_written}
 use Rattle.rust_pattern_model.specs.Translation.{WritesAtom, WritesPart, WritesItems, WritesClass, inside, opening}
 use Rattle.pattern_translation.specs.inner.Adding.{Adds, AddsPart}
@@ -36,9 +37,6 @@ atom_added before a x y old new e f =
       record { own = own; read = e; stands = s; is = refl },
       f own s,
     )
-
-pub some_same : {A : Type 0} (a b : A) → Some a ≡ Some b → a ≡ b
-some_same a b e = cc
 
 -- what an atom begins, by what follows it
 part_by : (x z : Text) (a : Atom) (k r : Bool) → class_atom x ≡ Some (a, z) → has_hyphens true (a, z) ≡ k → makes_range z ≡ r →

@@ -9,7 +9,7 @@ use Rattle.pattern_model.specs.Tokens.{token_from}
 use Rattle.pattern_tree.proofs.Leads.{one_spelled}
 use Rattle.rust_pattern_model.specs.Written.{atom_written}
 use Rattle.rust_pattern_model.specs.Translation.{WritesAtom, WritesPart, WritesItems, opening, token_written, WritesToken, Writes, Translates}
-use Rattle.pattern_translation.proofs.ClassWriting.{some_same}
+use Rattle.rust_pattern_model.proofs.Alone.{some_same}
 
 same_own : (x own other y z : Text) → x ≡ own ++ y → x ≡ other ++ z → y ≡ z → own ≡ other
 same_own x own other y z e f i = append_cancel_right own other y (sym e ∙ (f ∙ ap (λ t. other ++ t) (sym i)))

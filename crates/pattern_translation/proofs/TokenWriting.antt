@@ -15,7 +15,8 @@ use Rattle.rust_pattern_model.specs.Refusals.{Refusal, refusal, has_look_around,
 use Rattle.rust_pattern_model.specs.Translation.{WritesClass, WritesToken, token_written, Writes, Translates}
 use Rattle.pattern_translation.specs.inner.Adding.{Adds, AddsToken, token_refers, refers_in}
 use Rattle.pattern_translation.proofs.CopyLaws.{adds_both}
-use Rattle.pattern_translation.proofs.ClassWriting.{some_same}
+use Rattle.rust_pattern_model.proofs.Alone.{some_same}
+use Rattle.rust_pattern_model.proofs.EscapeScan.{or_left, or_right}
 
 -- the beginning of a group that has a name
 pub name_added : (n old middle next new : List ℕ) → IsUtf8 n → middle ≡ old ++ codes "(?<" → next ≡ middle ++ n → new ≡ next ++ codes ">" →
@@ -48,14 +49,6 @@ other_added c x y text t old new e h r f p q =
           (own, k, ap (λ z. token_written z.0 (c ∷ x) own) j),
       subst (λ z. Adds old new (token_written t z own)) h (f own (h ∙ k)),
     )
-
-or_left : (a b : Bool) → a || b ≡ false → a ≡ false
-or_left true b e = cc
-or_left false b e = refl
-
-or_right : (a b : Bool) → a || b ≡ false → b ≡ false
-or_right true b e = cc
-or_right false b e = e
 
 -- one token more
 pub next_added : (x : Text) (c : ℕ) (after y : Text) (more : List Token) (w : Text) (old new : List ℕ) (P : Text → Type 0) →

@@ -16,3 +16,4 @@ pub mod TextReads
 pub mod OneReading
 pub mod TokensOnce
 pub mod OneTree
+pub mod NoTree

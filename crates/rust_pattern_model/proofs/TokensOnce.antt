@@ -111,7 +111,7 @@ no_times c x e f g h =
     (not_if (c == 93 || c == 125) _ _ refl refl))))))))))))
 
 -- the kinds of tokens that are read, each with a number
-data Seen : Token → ℕ → Type 0 where
+pub data Seen : Token → ℕ → Type 0 where
   code : (c : ℕ) → Seen (Token.leaf (Leaf.code c)) 1
   start : Seen (Token.leaf Leaf.start) 2
   end : Seen (Token.leaf Leaf.end) 3
@@ -124,10 +124,10 @@ data Seen : Token → ℕ → Type 0 where
   times : (b : Bounds) → Seen (Token.times b) 10
 
 -- the number of the token that a text begins with
-abbrev group_at : Text → ℕ
+abbrev pub group_at : Text → ℕ
 group_at x = if is_at 63 x then (if is_at 58 (drop 1 x) then 6 else 7) else 5
 
-abbrev sort_at : Text → ℕ
+abbrev pub sort_at : Text → ℕ
 sort_at [] = 0
 sort_at (c ∷ x) =
     if c == 94 then 2
@@ -185,12 +185,12 @@ class_sort y true items r h = ap sort_at h.class.1
 class_sort y false items r h = ap sort_at h.class.1.0
 
 -- a token that is read from y is of the kind that y begins with
-record Sorted (y : Text) (t : Token) : Type 0 where
+pub record Sorted (y : Text) (t : Token) : Type 0 where
   pub kind : ℕ
   pub seen : Seen t kind
   pub at : sort_at y ≡ kind
 
-sorted : (y : Text) (t : Token) (r : Text) → ReadsToken y t r → Sorted y t
+pub sorted : (y : Text) (t : Token) (r : Text) → ReadsToken y t r → Sorted y t
 sorted y (Token.leaf (Leaf.code c)) r h = record { kind = 1; seen = Seen.code c; at = code_sort c y r h }
 sorted y (Token.leaf Leaf.start) r h = record { kind = 2; seen = Seen.start; at = ap sort_at h }
 sorted y (Token.leaf Leaf.end) r h = record { kind = 3; seen = Seen.end; at = ap sort_at h }
@@ -294,7 +294,7 @@ token_once y t u r s n m Seen.bar Seen.bar e h k = (AlikeToken.same, ap (drop 1)
 token_once y t u r s n m (Seen.times b) (Seen.times d) e h k = times_alike y (Token.times b) (Token.times d) r s h.0 k.0
 token_once y t u r s n m a b e h k = absurd (true_false (sym e))
 
-same_number : (a b : ℕ) → a ≡ b → a == b ≡ true
+pub same_number : (a b : ℕ) → a ≡ b → a == b ≡ true
 same_number a b e = grind (arith, nat_tests)
 
 abbrev pub AlikeTokens : List Token → List Token → Type 0

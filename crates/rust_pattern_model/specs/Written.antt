@@ -38,15 +38,22 @@ code_written x own =
     else if is_escape 62 x then codes ">"
     else own
 
--- A plain character of a class gets a backslash: `[`, `&` and `~` beside the same character, and `-` beside a hyphen. The source
--- goes on with it at x, and behind it with `next`. At `before` stands what is directly before it in the class, if anything is.
--- In a class `&` and `~` are plain, but for `\&` and `\~`, and what ends with a hyphen is `-` or `\-`.
+-- Two places in a class: `before` begins with what is directly before a character, if anything is, and `next` with what is directly
+-- behind it. The same plain character stands beside it; in a class `&` and `~` are plain, but for `\&` and `\~`.
+abbrev pub has_same_beside : ℕ → Text → Text → Bool
+has_same_beside c before next = is_at c before || is_at c next
+
+-- A hyphen stands beside it: `-` or `\-` before it, or `-` behind it.
+abbrev pub has_hyphen_beside : Text → Text → Bool
+has_hyphen_beside before next = is_at 45 before || (is_escape 45 before || is_at 45 next)
+
+-- A plain character of a class, with which x begins, gets a backslash: `[`; `&` and `~` beside the same; and `-` beside a hyphen.
 abbrev pub gets_backslash : Text → Text → Text → Bool
 gets_backslash before x next =
     is_at 91 x
-    || ((is_at 38 x && (is_at 38 before || is_at 38 next))
-    || ((is_at 126 x && (is_at 126 before || is_at 126 next))
-    || (is_at 45 x && (is_at 45 before || (is_escape 45 before || is_at 45 next)))))
+    || ((is_at 38 x && has_same_beside 38 before next)
+    || ((is_at 126 x && has_same_beside 126 before next)
+    || (is_at 45 x && has_hyphen_beside before next)))
 
 -- an atom of a class
 abbrev pub atom_written : Text → Atom → Text → Text → Text → Text

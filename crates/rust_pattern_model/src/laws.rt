@@ -1,6 +1,6 @@
 //! Laws of what is written for Rust.
 
-ghost use Rattle.std.specs.Prelude.{◌≡◌, ℕ, Bool, true, false, List, [], ◌∷◌, Some};
+ghost use Rattle.std.specs.Prelude.{◌≡◌, ℕ, Bool, true, false, List, [], ◌∷◌, Some, codes};
 ghost use Rattle.std.specs.List.{list_all};
 ghost use Rattle.pattern_model.specs.Text.{Text};
 ghost use Rattle.pattern_model.specs.Tree.{Item, Leaf, Tree, Token};
@@ -39,4 +39,10 @@ pub fn texts_keep_their_trees()
 /// Two trees that a text has by Rust's grammar are alike.
 pub fn trees_of_a_text_are_alike()
     ensures { (y : Text) (t u : Tree) → RustGrammar y t → RustGrammar y u → Alike t u }
+{}
+
+/// Rust's grammar does not take every text: `\s` and `[a&&b]` have no tree.
+pub fn some_patterns_have_no_tree()
+    ensures escape { (t : Tree) → RustGrammar (codes "\\s") t → ⊥ }
+    ensures operation { (t : Tree) → RustGrammar (codes "[a&&b]") t → ⊥ }
 {}

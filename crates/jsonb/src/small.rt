@@ -54,7 +54,8 @@ fn are_two_groups(bytes: &[u8]) -> bool
     is_group(u16::from_le_bytes([bytes[5], bytes[6]]))
 }
 
-/// Whether the bytes are a number of one or two groups, as most are: each of them is narrow. What is not told here is read group by group.
+/// Whether the bytes are a number in the short form of one size byte, of one or two groups: each of them is narrow. What is not told
+/// here is read group by group.
 pub fn is_small(bytes: &[u8]) -> bool
     ensures { IsTrue result → option_map is_narrow (numeric_of bytes.now) ≡ Some true }
 {

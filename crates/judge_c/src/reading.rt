@@ -5,8 +5,8 @@ ghost use Rattle.jsonb.specs.Nodes.{node_tree};
 ghost use Rattle.jsonb.specs.Root.{IsRead};
 ghost use Rattle.judge_c.specs.inner.Read.{IsUnread};
 
-use jsonb::{Jsonb, JsonbError, JsonbNode};
 use flat_keywords::Fault;
+use jsonb::{Jsonb, JsonbError, JsonbNode};
 use std::alloc::Global;
 
 /// Why a slice is not read.

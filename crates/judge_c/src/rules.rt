@@ -6,9 +6,9 @@ ghost use Rattle.jsonb.specs.Nodes.{node_tree};
 ghost use Rattle.flat_keywords.specs.inner.Passes as flat;
 ghost use Rattle.judge_tree.specs.Compiled as nested;
 
+use flat_keywords::Checks;
 use json_exact::OutOfMemory;
 use jsonb::JsonbNode;
-use flat_keywords::Checks;
 use judge_tree::Schema;
 use std::alloc::Global;
 

@@ -10,6 +10,8 @@ returns-in-Ok-check_root g c =
 
 pub returns-in-Err-Faulty : goal.returns-in-Err-Faulty
 returns-in-Err-Faulty g c =
-    inr (Err (error_of c.in-Err-Faulty.fault),
-    subst (IsUnread c.args.document.now) c.in-Err-Faulty.field-0-is c.in-Err-Faulty.ensures,
-    (c.in-Err-Faulty.fault, refl, (let e = c.in-Err-Faulty.fault-is in let h = c.document_number.ensures in cc)))
+    inr (
+      Err (error_of c.in-Err-Faulty.fault),
+      subst (IsUnread c.args.document.now) c.in-Err-Faulty.field-0-is c.in-Err-Faulty.ensures,
+      (c.in-Err-Faulty.fault, refl, (let e = c.in-Err-Faulty.fault-is in let h = c.document_number.ensures in cc)),
+    )

@@ -41,11 +41,18 @@ module _ {a0 a1 a2 a3 a4 a5 a6 a7 : ℕ} {b0 b1 b2 b3 b4 b5 b6 b7 : ℕ} (xs ys 
   by_eight =
       one_byte (a0) (b0) a1 b1 (bytes_before (a2 ∷ a3 ∷ a4 ∷ a5 ∷ a6 ∷ a7 ∷ xs) (b2 ∷ b3 ∷ b4 ∷ b5 ∷ b6 ∷ b7 ∷ ys)) (is 1) (are 1)
       ∙ one_byte (a0 * 256 + a1) (b0 * 256 + b1) a2 b2 (bytes_before (a3 ∷ a4 ∷ a5 ∷ a6 ∷ a7 ∷ xs) (b3 ∷ b4 ∷ b5 ∷ b6 ∷ b7 ∷ ys)) (is 2) (are 2)
-      ∙ one_byte ((a0 * 256 + a1) * 256 + a2) ((b0 * 256 + b1) * 256 + b2) a3 b3 (bytes_before (a4 ∷ a5 ∷ a6 ∷ a7 ∷ xs) (b4 ∷ b5 ∷ b6 ∷ b7 ∷ ys)) (is 3) (are 3)
-      ∙ one_byte (((a0 * 256 + a1) * 256 + a2) * 256 + a3) (((b0 * 256 + b1) * 256 + b2) * 256 + b3) a4 b4 (bytes_before (a5 ∷ a6 ∷ a7 ∷ xs) (b5 ∷ b6 ∷ b7 ∷ ys)) (is 4) (are 4)
-      ∙ one_byte ((((a0 * 256 + a1) * 256 + a2) * 256 + a3) * 256 + a4) ((((b0 * 256 + b1) * 256 + b2) * 256 + b3) * 256 + b4) a5 b5 (bytes_before (a6 ∷ a7 ∷ xs) (b6 ∷ b7 ∷ ys)) (is 5) (are 5)
-      ∙ one_byte (((((a0 * 256 + a1) * 256 + a2) * 256 + a3) * 256 + a4) * 256 + a5) (((((b0 * 256 + b1) * 256 + b2) * 256 + b3) * 256 + b4) * 256 + b5) a6 b6 (bytes_before (a7 ∷ xs) (b7 ∷ ys)) (is 6) (are 6)
-      ∙ one_byte ((((((a0 * 256 + a1) * 256 + a2) * 256 + a3) * 256 + a4) * 256 + a5) * 256 + a6) ((((((b0 * 256 + b1) * 256 + b2) * 256 + b3) * 256 + b4) * 256 + b5) * 256 + b6) a7 b7 (bytes_before xs ys) (is 7) (are 7)
+      ∙ one_byte ((a0 * 256 + a1) * 256 + a2) ((b0 * 256 + b1) * 256 + b2) a3 b3
+      (bytes_before (a4 ∷ a5 ∷ a6 ∷ a7 ∷ xs) (b4 ∷ b5 ∷ b6 ∷ b7 ∷ ys)) (is 3) (are 3)
+      ∙ one_byte (((a0 * 256 + a1) * 256 + a2) * 256 + a3) (((b0 * 256 + b1) * 256 + b2) * 256 + b3) a4 b4
+      (bytes_before (a5 ∷ a6 ∷ a7 ∷ xs) (b5 ∷ b6 ∷ b7 ∷ ys)) (is 4) (are 4)
+      ∙ one_byte ((((a0 * 256 + a1) * 256 + a2) * 256 + a3) * 256 + a4) ((((b0 * 256 + b1) * 256 + b2) * 256 + b3) * 256 + b4) a5 b5
+      (bytes_before (a6 ∷ a7 ∷ xs) (b6 ∷ b7 ∷ ys)) (is 5) (are 5)
+      ∙ one_byte (((((a0 * 256 + a1) * 256 + a2) * 256 + a3) * 256 + a4) * 256 + a5)
+      (((((b0 * 256 + b1) * 256 + b2) * 256 + b3) * 256 + b4) * 256 + b5) a6 b6
+      (bytes_before (a7 ∷ xs) (b7 ∷ ys)) (is 6) (are 6)
+      ∙ one_byte ((((((a0 * 256 + a1) * 256 + a2) * 256 + a3) * 256 + a4) * 256 + a5) * 256 + a6)
+      ((((((b0 * 256 + b1) * 256 + b2) * 256 + b3) * 256 + b4) * 256 + b5) * 256 + b6) a7 b7
+      (bytes_before xs ys) (is 7) (are 7)
 
   abbrev pub left : ℕ
   left = from_be_bytes w64 (a0 ∷ a1 ∷ a2 ∷ a3 ∷ a4 ∷ a5 ∷ a6 ∷ a7 ∷ [])
@@ -54,7 +61,8 @@ module _ {a0 a1 a2 a3 a4 a5 a6 a7 : ℕ} {b0 b1 b2 b3 b4 b5 b6 b7 : ℕ} (xs ys 
   right = from_be_bytes w64 (b0 ∷ b1 ∷ b2 ∷ b3 ∷ b4 ∷ b5 ∷ b6 ∷ b7 ∷ [])
 
   -- where they differ, they tell
-  pub eight_tell : (left ≡ right → ⊥) → ltb left right ≡ bytes_before (a0 ∷ a1 ∷ a2 ∷ a3 ∷ a4 ∷ a5 ∷ a6 ∷ a7 ∷ xs) (b0 ∷ b1 ∷ b2 ∷ b3 ∷ b4 ∷ b5 ∷ b6 ∷ b7 ∷ ys)
+  pub eight_tell : (left ≡ right → ⊥) → ltb left right
+      ≡ bytes_before (a0 ∷ a1 ∷ a2 ∷ a3 ∷ a4 ∷ a5 ∷ a6 ∷ a7 ∷ xs) (b0 ∷ b1 ∷ b2 ∷ b3 ∷ b4 ∷ b5 ∷ b6 ∷ b7 ∷ ys)
   eight_tell h =
       let v = in_one_number a0 a1 a2 a3 a4 a5 a6 a7 in
       let w = in_one_number b0 b1 b2 b3 b4 b5 b6 b7 in
@@ -64,7 +72,8 @@ module _ {a0 a1 a2 a3 a4 a5 a6 a7 : ℕ} {b0 b1 b2 b3 b4 b5 b6 b7 : ℕ} (xs ys 
       ∙ ap (λ (t : Bool). ltb left right || (t && bytes_before xs ys)) n ∙ or_false (ltb left right))
 
   -- where they are the same, those behind them do
-  pub eight_same : left ≡ right → bytes_before xs ys ≡ bytes_before (a0 ∷ a1 ∷ a2 ∷ a3 ∷ a4 ∷ a5 ∷ a6 ∷ a7 ∷ xs) (b0 ∷ b1 ∷ b2 ∷ b3 ∷ b4 ∷ b5 ∷ b6 ∷ b7 ∷ ys)
+  pub eight_same : left ≡ right → bytes_before xs ys
+      ≡ bytes_before (a0 ∷ a1 ∷ a2 ∷ a3 ∷ a4 ∷ a5 ∷ a6 ∷ a7 ∷ xs) (b0 ∷ b1 ∷ b2 ∷ b3 ∷ b4 ∷ b5 ∷ b6 ∷ b7 ∷ ys)
   eight_same h =
       let v = in_one_number a0 a1 a2 a3 a4 a5 a6 a7 in
       let w = in_one_number b0 b1 b2 b3 b4 b5 b6 b7 in
@@ -73,7 +82,8 @@ module _ {a0 a1 a2 a3 a4 a5 a6 a7 : ℕ} {b0 b1 b2 b3 b4 b5 b6 b7 : ℕ} (xs ys 
 
 -- ---- as the code meets them
 
-taken_apart : (xs : List ℕ) → 8 ≤ length xs → xs ≡ get_or xs 0 0 ∷ get_or xs 1 0 ∷ get_or xs 2 0 ∷ get_or xs 3 0 ∷ get_or xs 4 0 ∷ get_or xs 5 0 ∷ get_or xs 6 0 ∷ get_or xs 7 0 ∷ drop 8 xs
+taken_apart : (xs : List ℕ) → 8 ≤ length xs
+    → xs ≡ get_or xs 0 0 ∷ get_or xs 1 0 ∷ get_or xs 2 0 ∷ get_or xs 3 0 ∷ get_or xs 4 0 ∷ get_or xs 5 0 ∷ get_or xs 6 0 ∷ get_or xs 7 0 ∷ drop 8 xs
 taken_apart [] le = absurd (omega (arith, le))
 taken_apart (a ∷ []) le = absurd (omega (arith, le))
 taken_apart (a ∷ b ∷ []) le = absurd (omega (arith, le))
@@ -92,7 +102,8 @@ tell x y v w is are le me e f differ =
     let q = taken_apart y me in
     let t = eight_tell (drop 8 x) (drop 8 y) (subst IsBytes p is) (subst IsBytes q are) (λ g. differ (e ∙ g ∙ sym f)) in
     ap (λ (n : ℕ). ltb n w) e ∙ ap (λ (n : ℕ). ltb (first_eight x) n) f ∙ t
-    ∙ ap (λ (xs : List ℕ). bytes_before xs (get_or y 0 0 ∷ get_or y 1 0 ∷ get_or y 2 0 ∷ get_or y 3 0 ∷ get_or y 4 0 ∷ get_or y 5 0 ∷ get_or y 6 0 ∷ get_or y 7 0 ∷ drop 8 y)) (sym p) ∙ ap (bytes_before x) (sym q)
+    ∙ ap (λ (xs : List ℕ). bytes_before xs (get_or y 0 0 ∷ get_or y 1 0 ∷ get_or y 2 0 ∷ get_or y 3 0
+    ∷ get_or y 4 0 ∷ get_or y 5 0 ∷ get_or y 6 0 ∷ get_or y 7 0 ∷ drop 8 y)) (sym p) ∙ ap (bytes_before x) (sym q)
 
 -- of a and b, x and y are left, and tell
 pub record EightsSoFar (a b x y : List ℕ) : Type 0 where
@@ -111,7 +122,8 @@ eights_go_on a b x y v w so_far le me e f is =
       right_bytes = IsBytes-drop 8 y so_far.right_bytes;
       same =
           t
-          ∙ ap (λ (xs : List ℕ). bytes_before xs (get_or y 0 0 ∷ get_or y 1 0 ∷ get_or y 2 0 ∷ get_or y 3 0 ∷ get_or y 4 0 ∷ get_or y 5 0 ∷ get_or y 6 0 ∷ get_or y 7 0 ∷ drop 8 y)) (sym p)
+          ∙ ap (λ (xs : List ℕ). bytes_before xs (get_or y 0 0 ∷ get_or y 1 0 ∷ get_or y 2 0 ∷ get_or y 3 0
+          ∷ get_or y 4 0 ∷ get_or y 5 0 ∷ get_or y 6 0 ∷ get_or y 7 0 ∷ drop 8 y)) (sym p)
           ∙ ap (bytes_before x) (sym q)
           ∙ so_far.same;
     }

@@ -70,7 +70,8 @@ five (a ∷ b ∷ c ∷ d ∷ f ∷ g ∷ xs) e = absurd (omega arith)
 header_is : (lo hi w : ℕ) (gs : List ℕ) → w ≡ from_le_bytes w16 (lo ∷ hi ∷ []) → 2 ^ 15 ≤ w → w < 2 ^ 15 + 2 ^ 14
     → Some (short_of w, gs) ≡ header_of (lo ∷ hi ∷ gs)
 unfolding header_of
-header_is lo hi w gs e low high = rw (le-leb 2 (length (lo ∷ hi ∷ gs)) (omega arith), ← e, le-ltb w (2 ^ 15) low, lt-ltb w (2 ^ 15 + 2 ^ 14) high) refl
+header_is lo hi w gs e low high =
+    rw (le-leb 2 (length (lo ∷ hi ∷ gs)) (omega arith), ← e, le-ltb w (2 ^ 15) low, lt-ltb w (2 ^ 15 + 2 ^ 14) high) refl
 
 one_group : (lo hi a b w g : ℕ) → w ≡ from_le_bytes w16 (lo ∷ hi ∷ []) → g ≡ from_le_bytes w16 (a ∷ b ∷ []) → 2 ^ 15 ≤ w → w < 2 ^ 15 + 2 ^ 14
     → w % 128 < 64 → 0 < g → g < 10000 → option_map is_narrow (numeric_of (11 ∷ lo ∷ hi ∷ a ∷ b ∷ [])) ≡ Some true
@@ -81,8 +82,11 @@ one_group lo hi a b w g e f low high plain some below =
     let s = shown (a ∷ b ∷ []) fit (omega arith) in
     let lift : (short_of w).lift ≡ 2 ^ 15 + w % 128 = rw (lt-ltb (w % 128) 64 plain) refl in
     let one : length s.gs ≡ 0 = omega (arith, s.len) in
-    let narrow = few_are_narrow (short_of w) (a ∷ b ∷ []) s (omega (arith, s.first)) (omega (arith, s.last)) (omega (arith, one)) (omega (arith, one, lift)) in
-    sym (narrow ∙ rest_is (11 ∷ lo ∷ hi ∷ a ∷ b ∷ []) (lo ∷ hi ∷ a ∷ b ∷ []) (short_of w) (a ∷ b ∷ []) refl (header_is lo hi w (a ∷ b ∷ []) e low high))
+    let narrow =
+    few_are_narrow (short_of w) (a ∷ b ∷ []) s (omega (arith, s.first)) (omega (arith, s.last)) (omega (arith, one))
+    (omega (arith, one, lift)) in
+    let header = header_is lo hi w (a ∷ b ∷ []) e low high in
+    sym (narrow ∙ rest_is (11 ∷ lo ∷ hi ∷ a ∷ b ∷ []) (lo ∷ hi ∷ a ∷ b ∷ []) (short_of w) (a ∷ b ∷ []) refl header)
 
 -- five bytes of one group
 pub five_are_narrow : (p : List ℕ) (w g : ℕ) → length p ≡ 5 → get_or p 0 0 ≡ 11 → w ≡ from_le_bytes w16 (get_or p 1 0 ∷ get_or p 2 0 ∷ [])
@@ -107,7 +111,8 @@ seven (a ∷ b ∷ c ∷ d ∷ f ∷ g ∷ []) e = absurd (omega arith)
 seven (a ∷ b ∷ c ∷ d ∷ f ∷ g ∷ h ∷ []) e = refl
 seven (a ∷ b ∷ c ∷ d ∷ f ∷ g ∷ h ∷ i ∷ xs) e = absurd (omega arith)
 
-two_groups : (lo hi a b c d w g l : ℕ) → w ≡ from_le_bytes w16 (lo ∷ hi ∷ []) → g ≡ from_le_bytes w16 (a ∷ b ∷ []) → l ≡ from_le_bytes w16 (c ∷ d ∷ [])
+two_groups : (lo hi a b c d w g l : ℕ) → w ≡ from_le_bytes w16 (lo ∷ hi ∷ []) → g ≡ from_le_bytes w16 (a ∷ b ∷ [])
+    → l ≡ from_le_bytes w16 (c ∷ d ∷ [])
     → 2 ^ 15 ≤ w → w < 2 ^ 15 + 2 ^ 14 → w % 128 < 64 → 0 < w % 128 → 0 < g → g < 10000 → 0 < l → l < 10000
     → option_map is_narrow (numeric_of (15 ∷ lo ∷ hi ∷ a ∷ b ∷ c ∷ d ∷ [])) ≡ Some true
 unfolding varlena_of groups_of

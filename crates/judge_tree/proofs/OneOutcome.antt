@@ -70,7 +70,8 @@ fair_alone n m p (UnknownKeyword i j) f h = none_there (keyword_of p.0) (λ w. f
 fair_alone n m p (BadKeyword i j) f h =
     both (keyword_of p.0) (λ w. flat.Suits w p.1 × ⊤) (λ w. (flat.HasForm w p.1 × ⊤ → ⊥)) (λ w s b. b (s.0.form, s.1)) f h.2
 fair_alone n m p (BadPattern i j) f h = both (keyword_of p.0) (λ w. flat.Suits w p.1 × ⊤) (λ w. flat.IsNoPattern w p.1) (λ w s b. s.0.pattern b) f h.2
-fair_alone n m p (PatternNotLiteral i j) f h = both (keyword_of p.0) (λ w. flat.Suits w p.1 × ⊤) (λ w. flat.NeedsEngine w p.1) (λ w s b. s.0.literal b) f h.2
+fair_alone n m p (PatternNotLiteral i j) f h =
+    both (keyword_of p.0) (λ w. flat.Suits w p.1 × ⊤) (λ w. flat.NeedsEngine w p.1) (λ w s b. s.0.literal b) f h.2
 fair_alone n m p OutOfMemory f h = h
 
 flat_once : (n m i : ℕ) (p : List ℕ × Tree) (w v : Outcome) → WalksFlat n m i p w → WalksFlat n m i p v → w ≡ v

@@ -19,7 +19,9 @@ word_at i words = from_le_bytes w32 (take 4 (drop (4 * i) words))
 
 -- the first eight bytes as one number, of which the first counts most
 abbrev pub first_eight : List ℕ → ℕ
-first_eight xs = from_be_bytes w64 (get_or xs 0 0 ∷ get_or xs 1 0 ∷ get_or xs 2 0 ∷ get_or xs 3 0 ∷ get_or xs 4 0 ∷ get_or xs 5 0 ∷ get_or xs 6 0 ∷ get_or xs 7 0 ∷ [])
+first_eight xs =
+    from_be_bytes w64
+    (get_or xs 0 0 ∷ get_or xs 1 0 ∷ get_or xs 2 0 ∷ get_or xs 3 0 ∷ get_or xs 4 0 ∷ get_or xs 5 0 ∷ get_or xs 6 0 ∷ get_or xs 7 0 ∷ [])
 
 -- from `old` to `new` there are at most so many steps as halving n keys takes
 abbrev pub AreFew : ℕ → ℕ → ℕ → Type 0

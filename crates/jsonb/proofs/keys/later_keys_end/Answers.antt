@@ -11,7 +11,8 @@ returns-in_err-item c = rw c.from_residual.ensures (ends_miss c.loop.invariant c
 
 pub returns-then-not-is_later_key : goal.returns-then-not-is_later_key
 returns-then-not-is_later_key c =
-    ends_stop c.loop.invariant (passage_place c.in_ok-item.behind) c.in_ok-item.item c.loop-test.true c.in_ok-item.ensures c.if-not-is_later_key.ensures
+    ends_stop c.loop.invariant (passage_place c.in_ok-item.behind) c.in_ok-item.item c.loop-test.true c.in_ok-item.ensures
+    c.if-not-is_later_key.ensures
 
 pub loop-preserved : goal.loop-preserved
 loop-preserved c =

@@ -59,8 +59,9 @@ fn answer(alloc: Global, line: &str) -> Option<String> {
         "types" => types::types(alloc, rest),
         "pattern" => patterns::pattern(alloc, rest),
         "regex" => regexes::regex(alloc, rest),
-        "long" => regexes::long(alloc, rest),
+        "regex_long" => regexes::long(alloc, rest),
         "rust" => rust_patterns::rust(alloc, rest),
+        "rust_long" => rust_patterns::long(alloc, rest),
         "errors" => names::errors(alloc),
         _ => None,
     }

@@ -32,7 +32,7 @@ pub enum SchemaError {
     /// A member is `pattern` with a pattern that is not literal, as in `{"pattern":"a"}`.
     #[error("PatternNotLiteral")]
     PatternNotLiteral { schema: usize, member: usize },
-    /// Memory for the compiled schema is wanting.
+    /// Memory for the compiled schema is wanting, or a `pattern` of 2^30 bytes or more is not literal.
     #[error("OutOfMemory")]
     OutOfMemory,
 }

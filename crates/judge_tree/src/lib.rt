@@ -5,11 +5,13 @@
 //! [`Schema::check`] take each `json_traits::Node`.
 //!
 //! A schema is `true`, `false` or an object. Six keywords have schemas inside: `properties`, `additionalProperties`, `items`,
-//! `allOf`, `anyOf` and `not`. Every other member is a flat keyword, as `judge` takes it. At most 128 containers nest.
+//! `allOf`, `anyOf` and `not`. Every other member is a flat keyword, as `judge` takes it. At most 128
+//! containers nest in a schema; a document may nest as deep as it likes.
 //!
 //! Why a schema is refused, and where, is a [`SchemaError`]; a [`TreeError`] says it of two slices. Their numbers name the schema and
 //! the member. For example `{"not":{"type":"x"}}` is refused by `BadKeyword { schema: 1, member: 0 }`: the root has the number 0, and
-//! the schema under `not` the number 1. Causes exclude one another ([`laws::one_answer`]).
+//! the schema under `not` the number 1. Causes exclude one another ([`laws::one_answer`]), and so do
+//! faults ([`laws::one_fault`]).
 //!
 //! The source is JSON Schema Core 2020-12, sections 4.3.2, 10.2.1 and 10.3, and the 2020-12 meta-schemas. That an unknown name is
 //! refused, the limit of 128, the order of causes and the numbers are this project's own.

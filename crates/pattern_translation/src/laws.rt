@@ -9,7 +9,8 @@ ghost use Rattle.pattern_translation.specs.Witness.{witness, without_assertions}
 ghost use Rattle.rust_pattern_model.specs.Translation.{Translates, Writes};
 
 /// A tree matches its witness from end to end, with starts, ends and boundaries read as empty. The tree has no look-around, no
-/// back-reference, no property escape and no modifiers (`is_covered`), and is ordered, as each tree of a text is.
+/// back-reference, no property escape, no modifiers and no count of 2^32 or more (`is_covered`), and is ordered, as each tree of a
+/// text is.
 pub fn witnesses_match()
     ensures { (t : Tree) (w : Text) → IsOrdered t → is_covered t ≡ true → witness t ≡ Some w →
         Matches (without_assertions t) w 0 (length w) }

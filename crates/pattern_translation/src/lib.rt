@@ -27,12 +27,13 @@
 //! Patterns are read by the widened grammar of `pattern_model`: its grammar of ECMA-262, but `]` and `}` may stand for themselves
 //! outside of classes, and in a class `\d--`, and so with each class escape, is three items. The witness is that of
 //! the tree, as `specs/Witness.antt` has it. There is none where the pattern has no text for Rust, for one of the causes in
-//! `specs/Refusals.antt` of `rust_pattern_model`: look-around, back-references, and parts that are not translated, as an empty class, `\b` in a class, or a
-//! count of 2^32 or more. Nor is there one where the pattern has a property escape or a group with
+//! `specs/Refusals.antt` of `rust_pattern_model`: look-around, back-references, and parts that are not translated, as an empty
+//! class, `\b` in a class, or a count of 2^32 or more. Nor is there one where the pattern has a property escape or a group with
 //! modifiers, since what these match is not told here.
 //!
-//! [`laws`] says that a pattern has at most one text for Rust. A tree without look-around, back-references, property escapes and
-//! modifiers matches its witness, if it has one, from end to end, where `^`, `$`, `\b` and `\B` are read as empty.
+//! [`laws`] says that a pattern has at most one text for Rust. A tree without look-around, back-references, property escapes,
+//! modifiers and counts of 2^32 or more matches its witness, if it has one, from end to end, where `^`, `$`, `\b` and `\B` are read
+//! as empty.
 #![tactic(auto)]
 
 mod class;

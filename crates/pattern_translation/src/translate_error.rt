@@ -4,7 +4,7 @@ use pattern_tree::OutOfMemory;
 use std::alloc::AllocError;
 use thiserror::Error;
 
-/// Why a pattern has no text for Rust. The first that stands is answered.
+/// Why a pattern has no text for Rust. The first of the first four that stands is answered. Want of memory may come in place of each.
 #[derive(Clone, Copy, Debug, PartialEq, Eq, Error)]
 pub enum TranslateError {
     /// The text is outside the widened grammar, as `(`.

@@ -10,7 +10,7 @@ use Rattle.pattern_model.specs.Tokens.{class_token, class_from}
 use Rattle.rust_pattern_model.specs.Refusals.{is_empty_class, has_other_escape}
 use Rattle.rust_pattern_model.specs.Translation.{WritesItems, WritesClass}
 use Rattle.rust_pattern_model.specs.RustClasses.{ReadsClass}
-use Rattle.rust_pattern_model.specs.RustPatterns.{ReadsSet}
+use Rattle.rust_pattern_model.proofs.SameSet.{SameSet}
 use Rattle.rust_pattern_model.proofs.Alone.{none_some, pair_same}
 use Rattle.rust_pattern_model.proofs.EscapeScan.{past_open, past_close}
 use Rattle.rust_pattern_model.proofs.ClassRows.{row_written, past_plain, Laid, laid}
@@ -35,11 +35,11 @@ written_is front x y v w rest items l f =
     ap (λ z. z ++ rest) f ∙ (append_assoc front (v ++ codes "]") rest ∙ ap (λ z. front ++ z) (append_assoc v (codes "]") rest ∙ l.written rest))
 
 set_read : (negated : Bool) (y rest : Text) (items : List Item) → list_all is_no_property items ≡ true →
-    ReadsClass y negated (image items) rest → ReadsSet y negated items rest
+    ReadsClass y negated (image items) rest → SameSet y negated items rest
 set_read negated y rest items p c = record { inner = image items; class = c; plain = p; same = λ d. class_same negated items d }
 
 abbrev Read : Text → Text → Bool → List Item → Type 0
-Read y w negated items = ((rest : Text) → ReadsSet (w ++ rest) negated items rest) × (has_other_escape false y ≡ false)
+Read y w negated items = ((rest : Text) → SameSet (w ++ rest) negated items rest) × (has_other_escape false y ≡ false)
 
 negated_read : (x y v w : Text) (items : List Item) → Laid [] x items (93 ∷ y) v → w ≡ codes "[^" ++ (v ++ codes "]") →
     is_empty_class (Leaf.class true items) ≡ false → list_all is_no_property items ≡ true → Read y w true items
@@ -61,7 +61,7 @@ plain_read x y v w items l f g i p = (
 pub class_read : (x y w : Text) (negated : Bool) (items : List Item) → class_from true x ≡ Some (Token.leaf (Leaf.class negated items), y) →
     WritesClass x y w → has_other_escape false (91 ∷ x) ≡ false → is_empty_class (Leaf.class negated items) ≡ false →
     list_all is_no_property items ≡ true →
-    ((rest : Text) → ReadsSet (w ++ rest) negated items rest) × (has_other_escape false y ≡ false)
+    ((rest : Text) → SameSet (w ++ rest) negated items rest) × (has_other_escape false y ≡ false)
 unfolding class_from
 class_read x y w negated items e (v, h, f) n i p = go (is_at 94 x) refl e h f
   where

@@ -12,7 +12,7 @@ use Rattle.pattern_model.specs.Properties.{is_word}
 use Rattle.pattern_model.specs.Members.{is_no_property, is_within, is_space, escape_has, item_has, class_has}
 use Rattle.rust_pattern_model.specs.Written.{escape_written}
 use Rattle.rust_pattern_model.specs.RustClasses.{Items, flip, some_has, rust_class_has, number_escape, escape, is_operation, BeginsItem, ReadsItems, ReadsClass}
-use Rattle.rust_pattern_model.specs.RustPatterns.{ReadsSet}
+use Rattle.rust_pattern_model.proofs.SameSet.{SameSet}
 
 -- \D, \S or \W
 abbrev pub is_capital : Escape → Bool
@@ -230,7 +230,7 @@ small_plain Escape.word = refl
 small_plain Escape.not_word = refl
 
 -- What is written for a class escape is read as a class with its members.
-pub escape_set : (e : Escape) (rest : Text) → ReadsSet (escape_written e ++ rest) (is_capital e) (small e ∷ []) rest
+pub escape_set : (e : Escape) (rest : Text) → SameSet (escape_written e ++ rest) (is_capital e) (small e ∷ []) rest
 escape_set e rest = record {
   inner = items_of e;
   class = escape_read e rest;

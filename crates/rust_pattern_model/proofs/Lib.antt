@@ -5,6 +5,7 @@ pub mod EscapeReads
 pub mod EscapeScan
 pub mod TreeMaps
 pub mod AlikeLaws
+pub mod SameSet
 pub mod EscapeSets
 pub mod ClassAtoms
 pub mod ClassRows

@@ -46,7 +46,7 @@ no_class true u r (inside, o, e, h) = true_false (ap (λ z. is_at 97 (drop 1 z))
 no_class false u r (inside, o, e, h) = behind_a u r (subst (λ z. ReadsItems z u r) (sym (ap (drop 1) o.0)) h)
 
 no_operation : (r : Text) (u : Token) (n : ℕ) → Seen u n → 4 == n ≡ true → ReadsToken (codes "[a&&b]") u r → ⊥
-no_operation r u n (Seen.class b items) e h = no_class b h.inner r h.class
+no_operation r u n (Seen.class b items) e h = no_class h.caret h.inner r h.class
 no_operation r u n a e h = true_false (sym e)
 
 operation_tokens : (ts : List Token) → ReadsTokens (codes "[a&&b]") ts → ⊥

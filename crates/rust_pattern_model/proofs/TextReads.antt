@@ -12,7 +12,7 @@ use Rattle.rust_pattern_model.specs.Translation.{Writes, Translates}
 use Rattle.rust_pattern_model.specs.RustPatterns.{ReadsTokens, RustGrammar}
 use Rattle.rust_pattern_model.specs.Alike.{AlikeLeaf, Alike}
 use Rattle.rust_pattern_model.proofs.EscapeScan.{or_left, or_right}
-use Rattle.rust_pattern_model.proofs.TreeMaps.{map_token, map_tree, tokens_map, fits_map, alike_map, token_part, parts_none}
+use Rattle.rust_pattern_model.proofs.TreeMaps.{map_token, map_tree, tokens_map, fits_map, apart_map, alike_map, token_part, parts_none}
 use Rattle.rust_pattern_model.proofs.EscapeSets.{is_capital, small}
 use Rattle.rust_pattern_model.proofs.TokenReads.{rust_leaf, Kept, token_passes}
 
@@ -134,6 +134,7 @@ text_read x w h e =
       record {
         fits = fits_map rust_leaf leaf_asserts Level.disjunction h.tree ∙ h.grammar.spells.fits;
         reads = subst (ReadsTokens w) (sym (tokens_map rust_leaf h.tree)) reads;
+        apart = apart_map rust_leaf h.tree ∙ h.grammar.apart;
       },
       alike_map rust_leaf leaf_alike h.tree,
     )

@@ -27,6 +27,7 @@ use Rattle.rust_pattern_model.proofs.Alone.{is_calm, true_false, none_some, some
 use Rattle.rust_pattern_model.proofs.EscapeReads.{escape_shown}
 use Rattle.rust_pattern_model.proofs.EscapeScan.{or_right, past_other, past_all_calm, escape_passed, name_passed}
 use Rattle.rust_pattern_model.proofs.TreeMaps.{map_token, token_part}
+use Rattle.rust_pattern_model.proofs.SameSet.{reads_set}
 use Rattle.rust_pattern_model.proofs.ClassReads.{class_read}
 use Rattle.rust_pattern_model.proofs.EscapeSets.{is_capital, small, escape_set}
 use Rattle.rust_pattern_model.proofs.QuantifierReads.{at_first, TimesRead, times_read, braces_read}
@@ -207,7 +208,7 @@ escape_front Escape.not_word more = refl
 
 set_or_code : (d : ℕ) (x : Text) (o : Option Escape) → Copied 92 (d ∷ x) (escape_or_code d x o)
 set_or_code d x (Some e) = λ own f n k. record {
-  reads = λ more q. escape_set e more;
+  reads = λ more q. reads_set (escape_written e ++ more) (is_capital e) (small e ∷ []) more (escape_set e more);
   front = λ i more. escape_front e more;
   passed = or_right (is_other_escape false (d ∷ x)) (has_other_escape false x) n;
 }
@@ -298,7 +299,7 @@ class_passes x p w e f n k = first (is_at 94 x) refl e
         let q : Kept (Token.leaf (Leaf.class negated items)) = subst Kept g k in
         let (reads, passed) = class_read x p.1 w negated items (e ∙ ap (λ t. Some (t, p.1)) g) f n q.no_other
         (kept (list_all is_no_property items) q.told) in
-        subst (λ t. Passes 91 t p.1 w) (sym g) (record { reads = λ more m. reads more; front = λ h more. front more; passed = passed })
+        subst (λ t. Passes 91 t p.1 w) (sym g) (record { reads = λ more m. reads_set (w ++ more) negated items more (reads more); front = λ h more. front more; passed = passed })
 
     items : (negated : Bool) (o : Option (List Item × Text)) → option_map (class_token negated) o ≡ Some p → Passes 91 p.0 p.1 w
     items negated None g = absurd (none_some g)

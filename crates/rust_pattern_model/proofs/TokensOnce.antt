@@ -19,7 +19,7 @@ use Rattle.pattern_model.specs.Classes.{class_items}
 use Rattle.pattern_model.specs.Tokens.{class_token, class_from, leaf_of_name, back_name, leaf_of_code, escape_or_code, escaped, token_from}
 use Rattle.pattern_model.proofs.BoolLaws.{and_left, and_right}
 use Rattle.rust_pattern_model.specs.Refusals.{is_plain_name}
-use Rattle.rust_pattern_model.specs.RustClasses.{escape, rust_class_has}
+use Rattle.rust_pattern_model.specs.RustClasses.{escape, rust_class_has, ReadsClass}
 use Rattle.rust_pattern_model.specs.RustPatterns.{is_syntax, character, ReadsSet, ReadsTimes, ReadsToken, ReadsTokens}
 use Rattle.rust_pattern_model.proofs.Alone.{found, true_false, none_some, pair_same}
 use Rattle.rust_pattern_model.proofs.TokenReads.{no_syntax}
@@ -181,8 +181,11 @@ capture_sort : (y r : Text) → y ≡ codes "(" ++ r → is_at 63 r ≡ false �
 capture_sort y r e f = ap sort_at e ∙ past (is_at 63 r) _ _ f
 
 class_sort : (y : Text) (n : Bool) (items : List Item) (r : Text) → ReadsSet y n items r → sort_at y ≡ 4
-class_sort y true items r h = ap sort_at h.class.1
-class_sort y false items r h = ap sort_at h.class.1.0
+class_sort y n items r h = go h.caret h.class
+  where
+    go : (b : Bool) → ReadsClass y b h.inner r → sort_at y ≡ 4
+    go true k = ap sort_at k.1
+    go false k = ap sort_at k.1.0
 
 -- a token that is read from y is of the kind that y begins with
 pub record Sorted (y : Text) (t : Token) : Type 0 where
@@ -251,9 +254,9 @@ plain_chars n e = chars-IsAscii n (small n (all_words n e))
 class_alike : (y : Text) (n m : Bool) (xs ys : List Item) (r s : Text) → ReadsSet y n xs r → ReadsSet y m ys s →
     AlikeToken (Token.leaf (Leaf.class n xs)) (Token.leaf (Leaf.class m ys)) × (r ≡ s)
 class_alike y n m xs ys r s h k =
-    let (e, f, g) = class_once y n m h.inner k.inner r s h.class k.class in (
+    let (e, f, g) = class_once y h.caret k.caret h.inner k.inner r s h.class k.class in (
       AlikeToken.sets h.plain k.plain
-          (λ c. sym (h.same c) ∙ (ap (λ z. rust_class_has z h.inner c) e ∙ (ap (λ z. rust_class_has m z c) f ∙ k.same c))),
+          (λ c. sym (h.same c) ∙ (ap (λ z. rust_class_has z h.inner c) e ∙ (ap (λ z. rust_class_has k.caret z c) f ∙ k.same c))),
       g,
     )
 

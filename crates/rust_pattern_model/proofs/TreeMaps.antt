@@ -3,6 +3,7 @@ use Rattle.std.proofs.Common.{◌≡◌, Bool, true, false, not, ◌&&◌, List,
 use Rattle.std.specs.Prelude.{◌||◌}
 use Rattle.std.specs.List.{list_all}
 use Rattle.pattern_model.specs.Tree.{Leaf, Mark, Bounds, Tree, Token, tokens_of, Level, fits, is_assertion, is_look, if_atom, is_atom, has_rows, has_bars}
+use Rattle.pattern_model.specs.SharedNames.{names, mark_names, disjoint, apart}
 use Rattle.rust_pattern_model.specs.Refusals.{some_part}
 use Rattle.rust_pattern_model.specs.Alike.{AlikeLeaf, Alike}
 
@@ -50,6 +51,30 @@ fits_map f h k (Tree.sequence l r) =
 fits_map f h k (Tree.either l r) =
     ap (λ z. has_bars k && (z && fits Level.alternative (map_tree f r))) (fits_map f h Level.disjunction l)
     ∙ ap (λ z. has_bars k && (fits Level.disjunction l && z)) (fits_map f h Level.alternative r)
+
+names_map : (f : Leaf → Leaf) (t : Tree) → names (map_tree f t) ≡ names t
+names_map f Tree.empty = refl
+names_map f (Tree.leaf l) = refl
+names_map f (Tree.group m t) = ap (λ z. mark_names m ++ z) (names_map f t)
+names_map f (Tree.repeat t b) = names_map f t
+names_map f (Tree.sequence l r) = ap (λ z. z ++ names (map_tree f r)) (names_map f l) ∙ ap (λ z. names l ++ z) (names_map f r)
+names_map f (Tree.either l r) = ap (λ z. z ++ names (map_tree f r)) (names_map f l) ∙ ap (λ z. names l ++ z) (names_map f r)
+
+-- groups of the new tree share names where those of the old one do
+pub apart_map : (f : Leaf → Leaf) (t : Tree) → apart (map_tree f t) ≡ apart t
+apart_map f Tree.empty = refl
+apart_map f (Tree.leaf l) = refl
+apart_map f (Tree.group m t) =
+    ap (λ z. z && disjoint (names (map_tree f t)) (mark_names m)) (apart_map f t)
+    ∙ ap (λ z. apart t && disjoint z (mark_names m)) (names_map f t)
+apart_map f (Tree.repeat t b) = apart_map f t
+apart_map f (Tree.sequence l r) =
+    ap (λ z. z && (apart (map_tree f r) && disjoint (names (map_tree f r)) (names (map_tree f l)))) (apart_map f l)
+    ∙ (ap (λ z. apart l && (z && disjoint (names (map_tree f r)) (names (map_tree f l)))) (apart_map f r)
+    ∙ (ap (λ z. apart l && (apart r && disjoint z (names (map_tree f l)))) (names_map f r)
+    ∙ ap (λ z. apart l && (apart r && disjoint (names r) z)) (names_map f l)))
+apart_map f (Tree.either l r) =
+    ap (λ z. z && apart (map_tree f r)) (apart_map f l) ∙ ap (λ z. apart l && z) (apart_map f r)
 
 -- the trees are alike, if the leaves are
 pub alike_map : (f : Leaf → Leaf) → ((l : Leaf) → AlikeLeaf l (f l)) → (t : Tree) → Alike t (map_tree f t)

@@ -5,6 +5,7 @@ use Rattle.std.specs.Prelude.{◌≡◌, ℕ, Bool, true, false, ◌||◌, ◌==
 use Rattle.std.specs.List.{list_all}
 use Rattle.std.specs.Str.{chars}
 use Rattle.pattern_model.specs.Text.{Text, is_at}
+use Rattle.pattern_model.specs.SharedNames.{apart}
 use Rattle.pattern_model.specs.Members.{is_no_property, class_has}
 use Rattle.pattern_model.specs.Tree.{Item, Leaf, Mark, Tree, Token, tokens_of, Level, fits}
 use Rattle.pattern_model.specs.Tokens.{token_from}
@@ -22,12 +23,14 @@ abbrev pub character : Text → Option (ℕ × Text)
 character [] = None
 character (c ∷ x) = if c == 92 then escape x else if is_syntax c then None else Some (c, x)
 
--- y is a class and the rest; a tree's class has no class in it, and stands for each that has its members. It has no property escape.
+-- y is a class and the rest. A tree's class has no class in it and no property escape. It stands for each class that has its members,
+-- and the caret may stand in either alone.
 pub record ReadsSet (y : Text) (negated : Bool) (items : List Item) (rest : Text) : Type 0 where
+  pub caret : Bool
   pub inner : Items
-  pub class : ReadsClass y negated inner rest
+  pub class : ReadsClass y caret inner rest
   pub plain : list_all is_no_property items ≡ true
-  pub same : (c : ℕ) → rust_class_has negated inner c ≡ class_has negated items c
+  pub same : (c : ℕ) → rust_class_has caret inner c ≡ class_has negated items c
 
 -- a quantifier, as ECMA-262 has it, with counts below 2^32
 pub record ReadsTimes (y : Text) (t : Token) (rest : Text) : Type 0 where
@@ -56,7 +59,8 @@ abbrev pub ReadsTokens : Text → List Token → Type 0
 ReadsTokens y [] = y ≡ []
 ReadsTokens y (t ∷ ts) = (rest : Text) × ReadsToken y t rest × ReadsTokens rest ts
 
--- the text has the tree
+-- the text has the tree; groups share names as in ECMA-262
 pub record RustGrammar (y : Text) (t : Tree) : Type 0 where
   pub fits : fits Level.disjunction t ≡ true
   pub reads : ReadsTokens y (tokens_of t)
+  pub apart : apart t ≡ true

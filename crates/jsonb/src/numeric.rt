@@ -6,7 +6,6 @@ ghost use Rattle.jsonb_layout.specs.inner.Narrow.{is_narrow};
 ghost use Rattle.jsonb_layout.specs.inner.Reading.{varlena_of, header_of, numeric_of};
 ghost use Rattle.jsonb.specs.inner.Groups.{groups_fit_of, rest_of};
 
-use crate::small::is_small;
 use jsonb_layout::Header;
 
 /// The power of 10000 that the first group counts: 2^15 less than the lifted weight.
@@ -177,19 +176,8 @@ fn is_zero(header: Header) -> bool
 }
 
 /// Whether the number is narrow, or none where the bytes are no number.
-pub fn narrow_number(bytes: &[u8]) -> Option<bool>
-    requires { length bytes.now < 2 ^ 28 }
-    ensures { result ≡ option_map is_narrow (numeric_of bytes.now) }
-{
-    if is_small(bytes) {
-        return Some(true);
-    }
-    any_narrow_number(bytes)
-}
-
-/// Whether the number is narrow, or none where the bytes are no number, of as many groups as there are.
 #[inline(never)]
-fn any_narrow_number(bytes: &[u8]) -> Option<bool>
+pub fn narrow_number(bytes: &[u8]) -> Option<bool>
     requires { length bytes.now < 2 ^ 28 }
     ensures { result ≡ option_map is_narrow (numeric_of bytes.now) }
 {

@@ -1,9 +1,10 @@
-use Rattle.std.proofs.Common.{arith}
-use Rattle.jsonb.proofs.SmallNumbers.{seven_are_narrow}
+use Rattle.std.proofs.lemmas.Bool.{and_parts}
+use Rattle.jsonb.proofs.SmallNumbers.{ten_are_narrow}
 use Rattle.jsonb.proofs.small.are_two_groups.Goals as goal
 
-pub returns : goal.returns
-returns c =
-    λ yes. seven_are_narrow c.args.bytes.now _ _ _ c.requires c.if-bytes-ne15.false c.from_le_bytes-word.ensures c.from_le_bytes.ensures
-    c.from_le_bytes-2.ensures (c.is_plain.ensures c.if-not-is_plain.false) (omega (arith, c.if-word-eq0.false))
-    (c.is_group.ensures c.if-not-is_group.false) (c.is_group-2.ensures yes)
+pub returns-then-fit : goal.returns-then-fit
+returns-then-fit c =
+    λ yes head. let all = and_parts _ c.is_group-2.result c.if-fit.true in
+    let both = and_parts c.is_plain.result c.is_group.result all.0 in
+    ten_are_narrow c.args.bytes.now _ _ _ c.requires head c.from_le_bytes-word.ensures c.from_le_bytes.ensures c.from_le_bytes-last.ensures
+    (c.is_plain.ensures both.0) (c.is_group.ensures both.1) (c.is_group-2.ensures all.1) (c.is_within.ensures yes)

@@ -1,7 +1,7 @@
 use Rattle.std.proofs.Common.{sym, ◌∙◌}
 use Rattle.std.proofs.lemmas.Bool.{eqb-true}
 use Rattle.jsonb.proofs.Groups.{no_header, no_groups, rest_is, unfit, zero_rest, zero_none}
-use Rattle.jsonb.proofs.numeric.any_narrow_number.Goals as goal
+use Rattle.jsonb.proofs.numeric.narrow_number.Goals as goal
 
 pub returns-in_err-body : goal.returns-in_err-body
 returns-in_err-body c = rw c.from_residual.ensures (no_header c.args.bytes.now c.in_err-body.ensures.read)

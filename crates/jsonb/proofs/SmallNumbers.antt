@@ -1,16 +1,16 @@
 -- Numbers of few groups are narrow.
-use Rattle.std.proofs.Common.{◌≡◌, ℕ, suc, zero, ◌+◌, ◌-◌, ◌*◌, ◌/◌, ◌%◌, ◌^◌, ◌<◌, ◌≤◌, Bool, true, false, List, [], ◌∷◌, length, take, drop, get_or, Option, Some, None, refl, sym, ap, subst, ◌∙◌, arith, inl, inr, eqb}
+use Rattle.std.proofs.Common.{◌≡◌, ℕ, suc, zero, ◌+◌, ◌-◌, ◌*◌, ◌/◌, ◌%◌, ◌^◌, ◌<◌, ◌≤◌, Bool, true, List, [], ◌∷◌, length, take, drop, get_or, Option, Some, None, refl, sym, ap, subst, ◌∙◌, arith, inl, inr, eqb}
 use Rattle.std.specs.Prelude.{option_map}
 use Rattle.std.specs.Int.{w16, w32, w64, from_le_bytes}
 use Rattle.std.specs.List.{list_all}
 use Rattle.std.proofs.lemmas.Bool.{cases_lt, le-leb, lt-ltb, le-ltb, eq-eqb, ne_eqb}
 use Rattle.json_model.specs.Decimal.{Decimal}
 use Rattle.json_model.specs.Tree.{number}
-use Rattle.jsonb_layout.specs.Layout.{pad}
+use Rattle.jsonb_layout.specs.Layout.{Item, pad}
 use Rattle.jsonb_layout.specs.Options.{◌>>=◌}
 use Rattle.jsonb_layout.specs.declared.header.Header.{Header}
 use Rattle.jsonb_layout.specs.inner.Narrow.{is_narrow}
-use Rattle.jsonb_layout.specs.inner.Reading.{varlena_of, header_of, groups_of, numeric_of, short_of, unpadded}
+use Rattle.jsonb_layout.specs.inner.Reading.{varlena_of, header_of, groups_of, numeric_of, short_of, unpadded, scalar_of}
 use Rattle.jsonb_layout.proofs.Tools.{IsBytes, some_is}
 use Rattle.jsonb.specs.Found.{nothing, scalar_found}
 use Rattle.jsonb.specs.inner.Groups.{groups_fit_of, rest_of}
@@ -80,6 +80,7 @@ few_are_narrow h b s z first zeros few fits =
     let narrow = narrow_if h b s k.0 z (length s.gs) (ends_are s refl refl counted) fits refl in
     subst (λ (t : Bool). Some t ≡ rest_of h b) (le-leb (4 * length s.gs + k.0) (38 + z) (omega (arith, few, k.1.few))) narrow
 
+-- a word of the short form, and what is behind it
 header_is : (lo hi w : ℕ) (gs : List ℕ) → w ≡ from_le_bytes w16 (lo ∷ hi ∷ []) → 2 ^ 15 ≤ w → w < 2 ^ 15 + 2 ^ 14
     → Some (short_of w, gs) ≡ header_of (lo ∷ hi ∷ gs)
 unfolding header_of
@@ -142,7 +143,7 @@ two_groups q lo hi a b c d w g l head e f k (low, high, plain) (some, below) (mo
     let s = shown gs fit (omega arith) in
     let lift : (short_of w).lift ≡ 2 ^ 15 + w % 128 = rw (lt-ltb (w % 128) 64 plain) refl in
     let two : length s.gs ≡ 1 = omega (arith, s.len) in
-    let last : l ≡ get_or (s.g ∷ s.gs) (length (s.g ∷ s.gs) - 1) 1 = m ∙ sym s.last in
+    let last : l ≡ get_or (s.g ∷ s.gs) (length (s.g ∷ s.gs) - 1) 1 = omega (arith, m, s.last) in
     let z = zeros_fill (w / 128 % 64 + 4 * (w % 128)) l more under within in
     let zeros = subst (λ (x : ℕ). Zeros x z.0) last z.1 in
     let narrow : Some true ≡ rest_of (short_of w) gs =
@@ -177,7 +178,7 @@ ten_are_narrow q w g l long head e f k plain first last within =
 
 -- ---- the front of a piece
 
--- what a front, shifted so that its padding goes into the upper half's place, says of its padding and of the length header
+-- what the front of a piece, shifted until its length header ends at the highest bit, says of the padding and of the header
 pub begins_is : (front pad header : ℕ) → pad < 4 → header < 2 ^ 32 → front * 2 ^ (32 - 8 * pad) % 2 ^ 64 ≡ header * 2 ^ 32 % 2 ^ 64
     → (front % 2 ^ (8 * pad) ≡ 0) × (front / 2 ^ (8 * pad) % 2 ^ 32 ≡ header)
 begins_is front zero header lt low e = (omega arith, omega arith)
@@ -250,3 +251,8 @@ module _ (at : ℕ) (p q : List ℕ) (front header : ℕ) (long : 8 ≤ length p
       let parts = front_is p front (pad at) header long are (omega arith) n begins in
       let word : from_le_bytes w32 (take 4 q) ≡ 4 * length q = ap (λ (r : List ℕ). from_le_bytes w32 (take 4 r)) behind ∙ parts.1 ∙ size in
       rw (le-leb (pad at) (length p) (omega (arith, long)), parts.0, ← behind) (narrow_found (numeric_of q) (narrow (header_4 q some word)))
+
+-- what is found in a number's item is what is found in its piece
+pub number_scalar : (at : ℕ) (x : Item) → x.kind ≡ 1 → option_map scalar_found (scalar_of at x) ≡ number_found at x.piece
+unfolding scalar_of
+number_scalar at x e = rw e refl

@@ -1,6 +1,6 @@
 -- One step of the reader, by what became of the frame.
-use Rattle.std.proofs.Common.{◌≡◌, ℕ, ◌+◌, ◌-◌, ◌<◌, ◌≤◌, List, [], ◌∷◌, ◌++◌, length, take, Option, Some, None, refl, sym, ap, subst, ◌∙◌, arith, length-append}
-use Rattle.std.specs.Prelude.{Err, option_map, option_to_list, MatchOption, IfSome}
+use Rattle.std.proofs.Common.{◌≡◌, ℕ, zero, suc, ◌+◌, ◌-◌, ◌<◌, ◌≤◌, List, [], ◌∷◌, ◌++◌, length, take, Option, Some, None, refl, sym, ap, subst, ◌∙◌, arith, length-append}
+use Rattle.std.specs.Prelude.{Err, option_map, IfSome}
 use Rattle.std.proofs.lemmas.List.{append-nil}
 use Rattle.json_model.specs.Tree.{Tree}
 use Rattle.json_model.specs.Nest.{nest}
@@ -13,7 +13,7 @@ use Rattle.jsonb.specs.declared.frame.Frame.{Frame}
 use Rattle.jsonb.specs.declared.error.JsonbError.{JsonbError}
 use Rattle.jsonb.specs.declared.error.JsonbError.TheVariants as errors
 use Rattle.jsonb.specs.Found.{nothing, both, tree_found}
-use Rattle.jsonb.specs.inner.Frames.{combine, container_found, rest_found, frame_found, frames_found, next_found, HoldsScalars, frames_weight, next_weight, IsInside, SuspendCause, StaysFlat, Moves, AdvanceCause, Searched}
+use Rattle.jsonb.specs.inner.Frames.{combine, container_found, rest_found, frame_found, frames_found, next_found, HoldsScalars, frame_weight, frames_weight, next_weight, IsInside, SuspendCause, StaysFlat, Moves, AdvanceCause, Searched}
 use Rattle.jsonb.specs.inner.Views.{place}
 use Rattle.jsonb.proofs.FoundLaws.{combine_none, combine_assoc, combine_nothing, nothing_combine, combine_some}
 use Rattle.jsonb.proofs.FrameLaws.{at_end, rest_none, rest_some, Left, stays_flat, no_inside, put_off}
@@ -34,15 +34,21 @@ module _ (frame : Frame) (old new : List Frame) (none : frame.left ≡ 0) (over 
     flat = flat;
   }
 
-  -- a frame that is ended: the one that was put off last is next
-  pub popped : (next : Option Frame) (len after : ℕ) → old ≡ new ++ option_to_list next → new ≡ take (len - 1) old
-      → MatchOption next ((len ≡ 0) × (after ≡ 0)) (λ _. after + 1 ≡ len) → Moves frame old new nothing next
-  popped None len after e rest cases =
-      let gone : new ≡ [] = rest ∙ ap (λ (k : ℕ). take (k - 1) old) cases.0 in
+  -- a frame that is ended, and none was put off
+  pub popped_none : (len : ℕ) → old ≡ new ++ [] → new ≡ take (len - 1) old → (0 < len → ⊥) → Moves frame old new nothing None
+  popped_none len e rest none_left =
       let same : old ≡ new = e ∙ append-nil new in
+      let gone : new ≡ [] = rest ∙ ap (λ (k : ℕ). take k old) (less_is len none_left) in
       popped_from None (ap frames_found same ∙ sym (nothing_combine (frames_found new))) (omega (arith, ap frames_weight same)) (λ _. gone)
       (λ g h f o. (gone, tt))
-  popped (Some f) len after e rest cases =
+    where
+      less_is : (n : ℕ) → (0 < n → ⊥) → n - 1 ≡ 0
+      less_is zero h = refl
+      less_is (suc n) h = absurd (h (omega arith))
+
+  -- the one that was put off last is next
+  pub popped_some : (f : Frame) → old ≡ new ++ f ∷ [] → Moves frame old new nothing (Some f)
+  popped_some f e =
       let p = put_off new old f e in
       popped_from (Some f) p.0 (sym p.1) (λ h. absurd cc) (λ g h s o. absurd (omega (arith, ap length (sym e ∙ o), length-append new (f ∷ []))))
 
@@ -115,7 +121,7 @@ module _ {frame : Frame} (next : NextItem frame) where
 
     -- a container was entered: its frame is next, and the rest is put off
     pub took_inside : (old new : List Frame) (i : Frame) → value.inner ≡ Some i → IsInside (place frame.start).at next.item
-        → next_weight value.inner ≤ length next.item.piece → frames_found new ≡ combine (rest_found (frame.left - 1) next.behind) (frames_found old)
+        → frame_weight i ≤ length next.item.piece → frames_found new ≡ combine (rest_found (frame.left - 1) next.behind) (frames_found old)
         → frames_weight new ≤ size next.behind + 1 + frames_weight old → Moves frame old new value.found (Some i)
     took_inside old new i is_there inside weight e w = record {
       so_far =
@@ -125,7 +131,7 @@ module _ {frame : Frame} (next : NextItem frame) where
           (combine_assoc (next_found value.inner) others (frames_found old)
           ∙ ap (combine (next_found value.inner)) (sym e)
           ∙ ap (λ (j : Option Frame). combine (next_found j) (frames_found new)) is_there);
-      smaller = omega (arith, size_left, weight, w, ap next_weight is_there);
+      smaller = omega (arith, size_left, weight, w);
       last = λ h. absurd cc;
       flat = λ g there flat o. absurd (no_inside_there g there flat inside);
     }
@@ -140,11 +146,6 @@ module _ {frame : Frame} (next : NextItem frame) where
     not_put_off errors.NotText inside h = h
     not_put_off errors.NumberTooWide inside h = h
     not_put_off errors.OutOfMemory inside h = λ g there flat. no_inside_there g there flat inside
-
--- what is said of a frame inside, where there is one
-pub inside_is : (inner : Option Frame) (i : Frame) (P : Type 0) → inner ≡ Some i → IfSome inner (λ _. P) → P
-inside_is None i P e h = absurd cc
-inside_is (Some j) i P e h = h
 
 -- a frame without its next item can not be read
 pub no_item : (frame : Frame) → (frame.left ≡ 0 → ⊥) → None ≡ item_at (place frame.start) → frame_found frame ≡ None

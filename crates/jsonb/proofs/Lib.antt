@@ -7,6 +7,7 @@ pub mod KeyBytes
 pub mod KeyEnds
 pub mod Walks
 pub mod Passages
+pub mod PlainLaws
 pub mod Scalars
 pub mod LeapLaws
 pub mod FrameLaws

@@ -12,7 +12,9 @@ use Rattle.jsonb.specs.declared.frame.Frame.{Frame}
 use Rattle.jsonb.specs.Found.{nothing, both, scalar_found, tree_found}
 use Rattle.jsonb.specs.inner.Frames.{combine, rest_found, frame_found, frames_found, next_found, Moves, Shortens, AdvanceCause}
 use Rattle.jsonb.specs.inner.Views.{place}
-use Rattle.jsonb.proofs.FoundLaws.{combine_assoc, combine_comm, combine_nothing, nothing_combine, combine_some}
+use Rattle.jsonb.specs.inner.Widths.{IsPlain}
+use Rattle.jsonb.proofs.PlainLaws.{plain_other}
+use Rattle.jsonb.proofs.FoundLaws.{both_nothing, combine_assoc, combine_comm, combine_nothing, nothing_combine, combine_some}
 use Rattle.jsonb.proofs.FrameLaws.{Flat, Left, rest_none, rest_some, scalar_none, scalar_some, stays_flat}
 
 -- where what is found is f and the rest, something is found in the rest
@@ -70,6 +72,25 @@ module _ {f : Found} {n i : ℕ} {p start : Place} (so_far : ScalarsSoFar f n i 
               let r = rest_there f a (rest_found n start) (rest_found (n - i) p) so_far.same there in
               subst (λ (m : ℕ). Flat m q) k (stays_flat left r.0 r.1 (so_far.flat a there flat));
         }
+
+-- where `left` of n values are left, n - left were read
+abbrev pub ScalarsLeft : Found → ℕ → ℕ → Place → Place → Type 0
+ScalarsLeft f n left p start = ScalarsSoFar f n (n - left) p start × (left ≤ n)
+
+module _ {f : Found} {n left : ℕ} {p start : Place} (so_far : ScalarsLeft f n left p start) (some : 0 < left)
+    (q : Place) (x : Item) (e : Some (x, q) ≡ item_at p) where
+  -- one scalar more is read
+  pub scalars_one_more : (x.kind ≡ 5 → ⊥) → (g h : Found) → h ≡ both f g → Some g ≡ option_map scalar_found (scalar_of p.at x)
+      → ScalarsLeft h n (left - 1) q start
+  scalars_one_more other g h is there =
+      let i : n - left + 1 ≡ n - (left - 1) = omega (arith, so_far.1, some) in
+      let more = scalars_go_on so_far.0 (omega (arith, so_far.1, some)) q x e other g there in
+      (subst (λ (a : Found). ScalarsSoFar a n (n - (left - 1)) q start) (sym is) (subst (λ (j : ℕ). ScalarsSoFar (both f g) n j q start) i more),
+      omega (arith, so_far.1))
+
+  -- and nothing is found in a plain one
+  pub scalars_plain : (h : Found) → h ≡ f → IsPlain p.at x → ScalarsLeft h n (left - 1) q start
+  scalars_plain h is plain = scalars_one_more (plain_other p.at x plain) nothing h (is ∙ sym (both_nothing f)) (sym plain)
 
 -- what is left of a frame
 module _ {f : Found} {n i : ℕ} {p start : Place} (so_far : ScalarsSoFar f n i p start) (frame rest : Frame)

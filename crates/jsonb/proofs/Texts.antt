@@ -1,6 +1,12 @@
-use Rattle.std.proofs.Common.{◌≡◌, ℕ, ◌<◌, ◌≤◌, List, length, get_or, Bool, true, false, refl, arith, inl, inr}
-use Rattle.std.proofs.lemmas.Bool.{cases_lt}
-use Rattle.std.proofs.lemmas.List.{get_or_past}
+use Rattle.std.proofs.Common.{◌≡◌, ℕ, ◌%◌, ◌^◌, ◌<◌, ◌≤◌, leb, eqb, true≢false, sym, ap, subst, ◌∙◌, List, length, take, map, replicate, get_or, Bool, true, false, not, cond, refl, arith, inl, inr}
+use Rattle.std.specs.Int.{w8}
+use Rattle.std.specs.Int.Count.{count_trailing_zeros}
+use Rattle.std.specs.List.{prefix_len}
+use Rattle.std.specs.Simd.Lanes.{mask_l, top, zip2}
+use Rattle.std.proofs.lemmas.Bool.{cases_lt, eq-eqb, ne_eqb, le-leb}
+use Rattle.std.proofs.lemmas.List.{get_or_past, get_or-take, length-take, length-map}
+use Rattle.std.proofs.lemmas.List.Sums.{prefix_len_passes, prefix_len-le-length}
+use Rattle.std.proofs.lemmas.Simd.{mask_l-mod, tops_compared, zip2_splat_left, first_set_mask_l}
 use Rattle.std.specs.Str.{IsUtf8, IsAscii, is_utf8}
 use Rattle.std.proofs.lemmas.Str.{is_utf8-from_IsUtf8, IsUtf8-from_is_utf8, IsUtf8-from_ascii}
 
@@ -30,3 +36,62 @@ ascii_by_highest bs highest h low i = elim (cases_lt i (length bs)) [
   | inl lt ↦ omega (arith, h i lt)
   | inr ge ↦ rw (get_or_past bs i 0 ge) (omega arith)
 ]
+
+-- bytes in front of the first that is 128 or more are ASCII
+pub ascii_before : (bs : List ℕ) (n : ℕ) → n ≡ prefix_len (λ b. not (leb 128 b)) bs → IsAscii (take n bs)
+ascii_before bs n e i = elim (cases_lt i n) [
+  | inl lt ↦ rw (get_or-take n bs i 0 lt) (below (get_or bs i 0) (prefix_len_passes (λ b. not (leb 128 b)) bs i 0 (omega (arith, lt, e))))
+  | inr ge ↦ rw (get_or_past (take n bs) i 0 (omega (arith, ge, length-take n bs))) (omega arith)
+]
+  where
+    below : (b : ℕ) → not (leb 128 b) ≡ true → b < 128
+    below b h = elim (cases_lt b 128) [
+      | inl lt ↦ lt
+      | inr ge ↦ absurd (true≢false (sym h ∙ ap not (le-leb 128 b ge)))
+    ]
+
+-- the bits of 32 lanes that are 128 or more
+abbrev pub high_bits : List ℕ → ℕ
+high_bits xs = mask_l (map (top 7) (zip2 (λ a b. cond (leb a b) 255 0) (replicate 32 128) xs)) % 2 ^ 64
+
+high_bits_are : (xs : List ℕ) → length xs ≡ 32 → high_bits xs ≡ mask_l (map (leb 128) xs)
+high_bits_are xs long =
+    ap (λ (bs : List Bool). mask_l bs % 2 ^ 64) (tops_compared w8 leb (replicate 32 128) xs ∙ zip2_splat_left leb 128 32 xs long)
+    ∙ mask_l-mod (map (leb 128) xs) 64 (omega (arith, long, length-map xs (leb 128)))
+
+module _ (xs : List ℕ) (long : length xs ≡ 32) where
+  low_lanes : cond (eqb (high_bits xs) 0) 32 (count_trailing_zeros 64 (high_bits xs)) ≡ prefix_len (λ b. not (leb 128 b)) xs
+  low_lanes = ap (λ (m : ℕ). cond (eqb m 0) 32 (count_trailing_zeros 64 m)) (high_bits_are xs long) ∙ first_set_mask_l (leb 128) xs 32 long (omega arith)
+
+  -- where no bit is set, all lanes are ASCII
+  pub all_low : high_bits xs ≡ 0 → IsAscii (take 32 xs)
+  all_low e = ascii_before xs 32 (ap (λ (b : Bool). cond b 32 (count_trailing_zeros 64 (high_bits xs))) (sym (eq-eqb (high_bits xs) 0 e)) ∙ low_lanes)
+
+  -- where one is, the lanes before the lowest are
+  pub some_high : (high_bits xs ≡ 0 → ⊥) → IsAscii (take (count_trailing_zeros 64 (high_bits xs)) xs)
+  some_high h =
+      ascii_before xs (count_trailing_zeros 64 (high_bits xs))
+      (ap (λ (b : Bool). cond b 32 (count_trailing_zeros 64 (high_bits xs))) (sym (ne_eqb (high_bits xs) 0 h)) ∙ low_lanes)
+
+  -- and they are 32 at most
+  pub few_low : (high_bits xs ≡ 0 → ⊥) → count_trailing_zeros 64 (high_bits xs) ≤ 32
+  few_low h =
+      let e : count_trailing_zeros 64 (high_bits xs) ≡ prefix_len (λ b. not (leb 128 b)) xs =
+      ap (λ (b : Bool). cond b 32 (count_trailing_zeros 64 (high_bits xs))) (sym (ne_eqb (high_bits xs) 0 h)) ∙ low_lanes in
+      omega (arith, e, long, prefix_len-le-length (λ b. not (leb 128 b)) xs)
+
+-- a piece lies in front of others, of which the first n of 32 are ASCII
+pub in_front : (piece rest block : List ℕ) (n : ℕ) → piece ≡ take (length piece) rest → block ≡ take 32 rest → n ≤ 32 → IsAscii (take n block)
+    → length piece ≤ n → IsAscii piece
+in_front piece rest block n front is few low fits i = elim (cases_lt i (length piece)) [
+  | inl lt ↦ subst (λ (b : ℕ). b < 128) (same lt) (low i)
+  | inr ge ↦ rw (get_or_past piece i 0 ge) (omega arith)
+]
+  where
+    same : i < length piece → get_or (take n block) i 0 ≡ get_or piece i 0
+    same lt =
+        get_or-take n block i 0 (omega (arith, lt, fits))
+        ∙ ap (λ (bs : List ℕ). get_or bs i 0) is
+        ∙ get_or-take 32 rest i 0 (omega (arith, lt, fits, few))
+        ∙ sym (get_or-take (length piece) rest i 0 lt)
+        ∙ ap (λ (bs : List ℕ). get_or bs i 0) (sym front)

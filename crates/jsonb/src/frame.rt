@@ -3,7 +3,7 @@
 use crate::place::Place;
 
 /// So many values of a container, from a place to the end of its payload.
-#[derive(Clone, Copy)]
+#[derive(Clone, Copy, Default)]
 pub struct Frame<'a> {
     pub left: usize,
     pub start: Place<'a>,

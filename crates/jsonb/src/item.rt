@@ -40,6 +40,13 @@ impl<'a> Item<'a> {
         Kind::from_number(self.number)
     }
 
+    /// The number of its kind.
+    pub fn number(&self) -> u8
+        ensures { result ≡ self.now.kind }
+    {
+        self.number
+    }
+
     /// Whether it is a string, as a key is.
     pub fn is_string(&self) -> bool
         ensures { result ≡ (self.now.kind == 0) }

@@ -17,3 +17,15 @@ pub struct Place<'a> {
     ghost words_fit: { 4 * index + length words.now < 2 ^ 60 },
     ghost payload_fits: { at + length rest.now < 2 ^ 28 },
 }
+
+impl<'a> Default for Place<'a> {
+    /// Before nothing.
+    fn default() -> Place<'a> {
+        Place {
+            index: 0,
+            at: 0,
+            words: &[],
+            rest: &[],
+        }
+    }
+}

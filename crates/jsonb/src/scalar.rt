@@ -1,17 +1,18 @@
 //! The items that have no items in them.
 
-ghost use Rattle.std.specs.Prelude.{◌≡◌, ◌==◌, ◌<◌, ◌^◌, length, option_map, IfSome, ◌≤◌, true};
+ghost use Rattle.std.specs.Prelude.{◌≡◌, ◌==◌, ◌<◌, ◌^◌, length, take, option_map, IfSome, IsTrue, ◌≤◌, true};
 ghost use Rattle.std.specs.List.{list_all};
 ghost use Rattle.std.specs.Str.{is_utf8};
 ghost use Rattle.jsonb_layout.specs.inner.Reading.{unpadded, scalar_of};
 ghost use Rattle.jsonb.specs.Found.{scalar_found};
-ghost use Rattle.jsonb.specs.inner.Widths.{width_found, number_found};
+ghost use Rattle.jsonb.specs.inner.Widths.{width_found, number_found, IsPlain};
 
-use crate::ascii::is_short_ascii;
+use crate::ascii::ascii_room;
 use crate::found::Found;
 use crate::item::Item;
 use crate::kind::Kind;
 use crate::numeric::narrow_number;
+use crate::small::is_small_number;
 
 /// The text that the bytes are, which were read before.
 #[tactic(auto, using(crate::proofs::Texts::text_proved))]
@@ -25,25 +26,13 @@ pub fn text_of(bytes: &[u8]) -> &str
 
 /// Whether the bytes are UTF-8, by their characters.
 #[tactic(auto, using(crate::proofs::Texts::text_true, crate::proofs::Texts::text_false))]
-#[inline(never)]
-fn is_decoded(bytes: &[u8]) -> bool
+pub fn is_text(bytes: &[u8]) -> bool
     ensures { result ≡ is_utf8 bytes.now }
 {
     match str::from_utf8(bytes) {
         Ok(_) => true,
         Err(_) => false,
     }
-}
-
-/// Whether the bytes are UTF-8. Most texts are short and ASCII, which is told without the decoder.
-#[tactic(auto, using(crate::proofs::Texts::ascii_text))]
-pub fn is_text(bytes: &[u8]) -> bool
-    ensures { result ≡ is_utf8 bytes.now }
-{
-    if bytes.len() < 32 && is_short_ascii(bytes) {
-        return true;
-    }
-    is_decoded(bytes)
 }
 
 fn all_zero(bytes: &[u8]) -> bool
@@ -90,12 +79,38 @@ fn number_width(at: usize, piece: &[u8]) -> Width
 }
 
 /// What is found in a scalar's item at a place. None where the item stands for no scalar.
-#[tactic(auto, unfolding(jsonb_layout::specs::inner::Reading::scalar_of))]
 pub fn scalar_faults(at: usize, item: &Item<'_>) -> Option<Found>
     ensures { result ≡ option_map scalar_found (scalar_of at item.now) }
 {
-    let piece = item.piece();
-    match item.kind()? {
+    // Its piece is short, as that of each item.
+    faults_of(at, item.number(), item.piece())
+}
+
+/// Whether nothing is found in a scalar, where that is told at once: of a short ASCII text, of null and the truth values, and of a small
+/// number. Its piece lies in front of what is left of the payload.
+#[inline(always)]
+pub fn is_plain(at: usize, number: u8, piece: &[u8], rest: &[u8]) -> bool
+    requires { piece.now ≡ take (length piece.now) rest.now }
+    ensures { IsTrue result → IsPlain at (record { kind = number; piece = piece.now }) }
+{
+    if number == 1 {
+        return is_small_number(at, piece);
+    }
+    if number > 4 {
+        return false;
+    }
+    let room = ascii_room(piece, rest);
+    piece.len() <= if number == 0 { room } else { 0 }
+}
+
+/// What is found in a scalar of a kind with this number, by its piece at a place. None where they stand for no scalar.
+#[tactic(auto, unfolding(jsonb_layout::specs::inner::Reading::scalar_of))]
+#[inline(never)]
+pub fn faults_of(at: usize, number: u8, piece: &[u8]) -> Option<Found>
+    requires { length piece.now < 2 ^ 28 }
+    ensures { result ≡ option_map scalar_found (scalar_of at (record { kind = number; piece = piece.now })) }
+{
+    match Kind::from_number(number)? {
         Kind::String => Some(Found {
             not_text: !is_text(piece),
             wide: false,

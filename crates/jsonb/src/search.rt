@@ -1,15 +1,17 @@
 //! What keeps a container from being JSON, with all the containers in it.
 //!
 //! The containers are read depth first. What is left of a container is put off while one inside it is read, and only where
-//! something is left: so, by review, memory is taken for the nesting alone, and none where no container stands inside another. Each
+//! something is left: so, by review, memory is taken for the nesting alone, and only where more than four containers are put off. Each
 //! byte is looked at a fixed number of times.
+//!
+//! The frame that is read stands in one place, which each step changes.
 
-ghost use Rattle.std.specs.Prelude.{◌≡◌, ◌+◌, ◌≤◌, length, Some, IfSome, OnOk, IfErr, option_map};
+ghost use Rattle.std.specs.Prelude.{◌≡◌, ◌+◌, ◌≤◌, length, Some, IfSome, IsTrue, OnOk, IfErr, option_map};
 ghost use Rattle.json_model.specs.Tree.{Tree};
 ghost use Rattle.json_model.specs.Nest.{nest};
 ghost use Rattle.jsonb_layout.specs.inner.Trees.{read, item_tree};
 ghost use Rattle.jsonb.specs.Found.{tree_found};
-ghost use Rattle.jsonb.specs.inner.Frames.{combine, container_found, frame_found, frames_found, entered, taken, HoldsScalars, frame_weight, frames_weight, next_weight, IsInside, SuspendCause, Shortens, MovesTo, Searched};
+ghost use Rattle.jsonb.specs.inner.Frames.{combine, container_found, frame_found, frames_found, entered, found_then, taken, taken_then, turned, HoldsScalars, frame_weight, frames_weight, IsInside, SuspendCause, Shortens, MovesTo, Searched};
 
 use crate::error::JsonbError;
 use crate::found::Found;
@@ -17,49 +19,59 @@ use crate::frame::Frame;
 use crate::item::Item;
 use crate::keys::key_faults;
 use crate::opening::open;
-use crate::passage::Passage;
-use crate::scalar::{scalar_faults, unpad};
+use crate::scalar::{faults_of, is_plain, scalar_faults, unpad};
 use crate::walk::next_item;
 use jsonb_layout::Form;
+use smallvec::SmallVec;
 use std::alloc::Global;
 
-/// Opens a container: what is found in its keys, and the frame of its values. None where the bytes are no container.
-fn enter(bytes: &[u8]) -> Option<(Found, Frame<'_>)>
-    ensures found { container_found bytes.now ≡ entered result }
-    ensures weight { IfSome result (λ r. frame_weight r.1 ≤ length bytes.now) }
+/// Frames that are put off; four of them take no memory.
+type Suspended<'a> = SmallVec<Frame<'a>, 4>;
+
+/// Opens a container: what is found in its keys; the frame becomes that of its values. None where the bytes are no container.
+#[inline(never)]
+fn enter<'a>(bytes: &'a [u8], frame: &mut Frame<'a>) -> Option<Found>
+    ensures found { container_found bytes.now ≡ entered (found_then frame.new result) }
+    ensures weight { IfSome result (λ _. frame_weight frame.new ≤ length bytes.now) }
     ensures flat { IfSome result
-        (λ r. (t : Tree) → read bytes.now ≡ Some t → nest t ≤ 1 → HoldsScalars r.1) }
+        (λ _. (t : Tree) → read bytes.now ≡ Some t → nest t ≤ 1 → HoldsScalars frame.new) }
 {
     let opened = open(bytes)?;
     let left = opened.count;
     let start = opened.start;
     match opened.form {
-        Form::Array => Some((Found::NOTHING, Frame { left, start })),
+        Form::Array => {
+            *frame = Frame { left, start };
+            Some(Found::NOTHING)
+        }
         Form::Object => {
             let (found, start) = key_faults(left, start)?;
-            Some((found, Frame { left, start }))
+            *frame = Frame { left, start };
+            Some(found)
         }
         Form::Lone => None,
     }
 }
 
-/// What is found in an item at a place, and the frame of a container's values. None where the item stands for nothing.
-fn value_faults<'a>(at: usize, item: Item<'a>) -> Option<(Found, Option<Frame<'a>>)>
-    ensures found { option_map tree_found (item_tree at item.entry) ≡ taken result }
-    ensures weight { IfSome result (λ r. next_weight r.1 ≤ length item.entry.piece) }
-    ensures inside { IfSome result (λ r. IfSome r.1 (λ _. IsInside at item.entry)) }
+/// What is found in an item at a place, and whether it is a container: the frame becomes that of its values then. None where the item
+/// stands for nothing.
+fn value_faults<'a>(at: usize, item: Item<'a>, frame: &mut Frame<'a>) -> Option<(Found, bool)>
+    ensures found { option_map tree_found (item_tree at item.entry) ≡ taken (taken_then frame.new result) }
+    ensures weight { IfSome result (λ r. IsTrue r.1 → frame_weight frame.new ≤ length item.entry.piece) }
+    ensures inside { IfSome result (λ r. IsTrue r.1 → IsInside at item.entry) }
 {
     if !item.is_container() {
         let found = scalar_faults(at, &item)?;
-        return Some((found, None));
+        return Some((found, false));
     }
     let bytes = unpad(at, item.piece())?;
-    let (found, frame) = enter(bytes)?;
-    Some((found, Some(frame)))
+    let found = enter(bytes, frame)?;
+    Some((found, true))
 }
 
 /// Puts off what is left of a container, unless nothing is.
-fn suspend<'a>(frame: Frame<'a>, suspended: &mut Vec<Frame<'a>>) -> Result<(), JsonbError>
+#[inline(never)]
+fn suspend<'a>(frame: Frame<'a>, suspended: &mut Suspended<'a>) -> Result<(), JsonbError>
     ensures found { OnOk result
         (frames_found suspended.new.items
         ≡ combine (frame_found frame.entry) (frames_found suspended.old.items)) }
@@ -80,74 +92,83 @@ fn suspend<'a>(frame: Frame<'a>, suspended: &mut Vec<Frame<'a>>) -> Result<(), J
     }
 }
 
-/// Reads the values of a frame that stand in front of the first container, and answers what was found in them and what is left.
-fn scalars(frame: Frame<'_>) -> Option<(Found, Frame<'_>)>
-    ensures found { frame_found frame.entry ≡ entered result }
-    ensures shorter { IfSome result (λ r. Shortens frame.entry r.1) }
+/// Reads the values of a frame that stand in front of the first container, and answers what was found in them. The frame becomes what
+/// is left.
+#[inline(never)]
+fn scalars(frame: &mut Frame<'_>) -> Option<Found>
+    ensures found { frame_found frame.old ≡ entered (found_then frame.new result) }
+    ensures shorter { IfSome result (λ _. Shortens frame.old frame.new) }
 {
-    let count = frame.left;
-    let mut current = Passage::new(frame.start);
+    let mut left = frame.left;
+    let mut current = frame.start;
     let mut found = Found::NOTHING;
-    let mut passed = 0;
-    while passed < count {
-        let (item, behind) = current.next_item()?;
-        if item.is_container() {
-            break;
+    while left > 0 {
+        let (item, behind) = next_item(current)?;
+        if !is_plain(current.at, item.number(), item.piece(), current.rest) {
+            if item.is_container() {
+                break;
+            }
+            found = found.with(faults_of(current.at, item.number(), item.piece())?);
         }
-        found = found.with(scalar_faults(current.at(), &item)?);
         current = behind;
-        passed += 1;
+        left -= 1;
     }
-    let rest = Frame {
-        left: count - passed,
-        start: current.place(),
+    *frame = Frame {
+        left,
+        start: current,
     };
-    Some((found, rest))
+    Some(found)
 }
 
-/// Reads the next value of a frame, and answers what was found in it and which frame is next.
+/// Reads the next value of a frame, and answers what was found in it and whether there is a frame to read next: what the frame becomes.
 fn step<'a>(
-    frame: Frame<'a>,
-    suspended: &mut Vec<Frame<'a>>,
-) -> Result<(Found, Option<Frame<'a>>), JsonbError>
-    ensures { MovesTo frame.entry suspended.old.items suspended.new.items result }
+    frame: &mut Frame<'a>,
+    suspended: &mut Suspended<'a>,
+) -> Result<(Found, bool), JsonbError>
+    ensures { MovesTo frame.old suspended.old.items suspended.new.items (turned frame.new result) }
 {
     if frame.left == 0 {
         if !frame.start.rest.is_empty() {
             return Err(JsonbError::Malformed);
         }
-        return Ok((Found::NOTHING, suspended.pop()));
+        let Some(next) = suspended.pop() else {
+            return Ok((Found::NOTHING, false));
+        };
+        *frame = next;
+        return Ok((Found::NOTHING, true));
     }
     let at = frame.start.at;
     let Some((item, start)) = next_item(frame.start) else {
-        return Err(JsonbError::Malformed);
-    };
-    let Some((found, inside)) = value_faults(at, item) else {
         return Err(JsonbError::Malformed);
     };
     let rest = Frame {
         left: frame.left - 1,
         start,
     };
-    let Some(inside) = inside else {
-        return Ok((found, Some(rest)));
-    };
-    suspend(rest, suspended)?;
-    Ok((found, Some(inside)))
-}
-
-/// Reads the values of a frame up to a container or to its end, and answers what was found and which frame is next.
-fn advance<'a>(
-    frame: Frame<'a>,
-    suspended: &mut Vec<Frame<'a>>,
-) -> Result<(Found, Option<Frame<'a>>), JsonbError>
-    ensures { MovesTo frame.entry suspended.old.items suspended.new.items result }
-{
-    let Some((found, rest)) = scalars(frame) else {
+    let Some((found, inside)) = value_faults(at, item, frame) else {
         return Err(JsonbError::Malformed);
     };
-    match step(rest, suspended) {
-        Ok((more, next)) => Ok((found.with(more), next)),
+    if !inside {
+        *frame = rest;
+        return Ok((found, true));
+    }
+    suspend(rest, suspended)?;
+    Ok((found, true))
+}
+
+/// Reads the values of a frame up to a container or to its end, and answers what was found and whether there is a frame to read next:
+/// what the frame becomes.
+fn advance<'a>(
+    frame: &mut Frame<'a>,
+    suspended: &mut Suspended<'a>,
+) -> Result<(Found, bool), JsonbError>
+    ensures { MovesTo frame.old suspended.old.items suspended.new.items (turned frame.new result) }
+{
+    let Some(found) = scalars(frame) else {
+        return Err(JsonbError::Malformed);
+    };
+    match step(frame, suspended) {
+        Ok((more, goes_on)) => Ok((found.with(more), goes_on)),
         Err(error) => Err(error),
     }
 }
@@ -156,17 +177,18 @@ fn advance<'a>(
 pub fn container_faults(alloc: Global, bytes: &[u8]) -> Result<Found, JsonbError>
     ensures { Searched bytes.now result }
 {
-    let Some((first, top)) = enter(bytes) else {
+    let mut frame = Frame::default();
+    let Some(first) = enter(bytes, &mut frame) else {
         return Err(JsonbError::Malformed);
     };
-    let mut suspended: Vec<Frame> = Vec::new(alloc);
+    let mut suspended: Suspended = SmallVec::new(alloc);
     let mut found = first;
-    let mut current = Some(top);
-    while let Some(frame) = current {
-        match advance(frame, &mut suspended) {
+    let mut goes_on = true;
+    while goes_on {
+        match advance(&mut frame, &mut suspended) {
             Ok((more, next)) => {
                 found = found.with(more);
-                current = next;
+                goes_on = next;
             }
             Err(error) => return Err(error),
         }

@@ -1,5 +1,5 @@
 -- What the reader has still to do: frames, each so many values from a place on, to the end of a container's payload.
-use Rattle.std.specs.Prelude.{◌≡◌, ℕ, ◌+◌, ◌<◌, ◌≤◌, List, [], ◌∷◌, Option, Some, None, Result, Ok, Err, IfSome, option_map}
+use Rattle.std.specs.Prelude.{◌≡◌, ℕ, ◌+◌, ◌<◌, ◌≤◌, Bool, true, false, List, [], ◌∷◌, Option, Some, None, Result, Ok, Err, IfSome, option_map}
 use Rattle.json_model.specs.Tree.{Scalar, Tree, scalar, Elements}
 use Rattle.json_model.specs.Nest.{nest, nest_elements}
 use Rattle.jsonb_layout.specs.Options.{◌>>=◌}
@@ -42,6 +42,22 @@ next_found (Some f) = frame_found f
 abbrev pub entered : Option (Found × Frame) → Option Found
 entered None = None
 entered (Some r) = combine (Some r.0) (frame_found r.1)
+
+-- a frame beside what was found, where something was
+abbrev pub found_then : Frame → Option Found → Option (Found × Frame)
+found_then f r = option_map (λ g. (g, f)) r
+
+-- the frame that is next, where there is one
+abbrev pub next_of : Frame → Bool → Option Frame
+next_of f true = Some f
+next_of f false = None
+
+abbrev pub taken_then : Frame → Option (Found × Bool) → Option (Found × Option Frame)
+taken_then f r = option_map (λ g. (g.0, next_of f g.1)) r
+
+abbrev pub turned : Frame → Result (Found × Bool) JsonbError → Result (Found × Option Frame) JsonbError
+turned f (Ok r) = Ok (r.0, next_of f r.1)
+turned f (Err e) = Err e
 
 -- what is found in a value that was taken
 abbrev pub taken : Option (Found × Option Frame) → Option Found

@@ -1,29 +1,43 @@
-use Rattle.std.proofs.Common.{◌≡◌, ℕ, None, Some, subst, sym}
+use Rattle.std.proofs.Common.{◌≡◌, None, Some, subst, sym, ◌∙◌, arith}
 use Rattle.std.specs.Prelude.{option_map}
 use Rattle.std.proofs.lemmas.Bool.{eqb-false}
+use Rattle.jsonb_layout.specs.Layout.{Item}
 use Rattle.jsonb_layout.specs.inner.Reading.{scalar_of}
 use Rattle.jsonb.specs.Found.{scalar_found}
-use Rattle.jsonb.specs.inner.Views.{passage_place}
-use Rattle.jsonb.proofs.Scalars.{scalars_miss, scalars_stop, scalars_go_on}
+use Rattle.jsonb.specs.inner.Views.{place}
+use Rattle.jsonb.specs.inner.Widths.{IsPlain}
+use Rattle.jsonb.proofs.PlainLaws.{item_is, item_front}
+use Rattle.jsonb.proofs.Scalars.{scalars_miss, scalars_stop, scalars_one_more, scalars_plain}
 use Rattle.jsonb.proofs.search.scalars.Goals as goal
+use Rattle.jsonb.proofs.search.scalars.Goals.{then-not-is_plain+else-is_container+in_ok-faults_of, else-not-is_plain}
 
 pub returns-in_err-item-clause-found : goal.returns-in_err-item-clause-found
 returns-in_err-item-clause-found c =
-    rw c.from_residual.ensures (scalars_miss c.loop-passed.invariant c.loop-passed-test.true c.in_err-item.ensures)
+    rw c.from_residual.ensures
+    (scalars_miss c.loop-left.invariant.0 (omega (arith, c.loop-left-test.true, c.loop-left.invariant.1)) c.in_err-item.ensures)
 
-pub returns-in_err-scalar_faults-clause-found : goal.returns-in_err-scalar_faults-clause-found
-returns-in_err-scalar_faults-clause-found c =
+pub is_plain-requires : goal.is_plain-requires
+is_plain-requires c = rw c.piece.ensures.piece (item_front (place c.loop-left.current) (place c.in_ok-item.behind) c.in_ok-item.item (sym c.in_ok-item.ensures))
+
+pub returns-in_err-faults_of-clause-found : goal.returns-in_err-faults_of-clause-found
+returns-in_err-faults_of-clause-found c =
     let x = c.in_ok-item.item in
-    rw c.from_residual-in_err-scalar_faults.ensures
-    (scalars_stop c.loop-passed.invariant c.loop-passed-test.true (passage_place c.in_ok-item.behind) x c.in_ok-item.ensures
+    rw c.from_residual-in_err-faults_of.ensures
+    (scalars_stop c.loop-left.invariant.0 (omega (arith, c.loop-left-test.true, c.loop-left.invariant.1)) (place c.in_ok-item.behind) x c.in_ok-item.ensures
     (eqb-false x.kind 5 (sym c.if-is_container.ensures))
-    (subst (λ (k : ℕ). None ≡ option_map scalar_found (scalar_of k x)) c.at.ensures c.in_err-scalar_faults.ensures))
+    (subst (λ (y : Item). None ≡ option_map scalar_found (scalar_of c.loop-left.current.at y))
+    (item_is _ _ x c.number-then-not-is_plain.ensures c.piece-then-not-is_plain.ensures.piece) c.in_err-faults_of.ensures))
 
-pub loop-passed-preserved : goal.loop-passed-preserved
-loop-passed-preserved c =
+pub loop-left-preserved : goal.loop-left-preserved
+loop-left-preserved c =
     let x = c.in_ok-item.item in
-    let f = c.in_ok-scalar_faults.field-0 in
-    rw c.with-found.ensures
-    (scalars_go_on c.loop-passed.invariant c.loop-passed-test.true (passage_place c.in_ok-item.behind) x c.in_ok-item.ensures
-    (eqb-false x.kind 5 (sym c.if-is_container.ensures)) f
-    (subst (λ (k : ℕ). Some f ≡ option_map scalar_found (scalar_of k x)) c.at.ensures c.in_ok-scalar_faults.ensures))
+    elim c.if-not-is_plain.branch [
+      | then-not-is_plain+else-is_container+in_ok-faults_of w ↦ scalars_one_more c.loop-left.invariant c.loop-left-test.true (place c.in_ok-item.behind)
+        x c.in_ok-item.ensures (eqb-false x.kind 5 (sym w.if-is_container.ensures)) w.in_ok-faults_of.field-0 c.if-not-is_plain.found
+        (w.found-is ∙ w.with-found.ensures)
+        (subst (λ (y : Item). Some w.in_ok-faults_of.field-0 ≡ option_map scalar_found (scalar_of c.loop-left.current.at y))
+        (item_is _ _ x w.number-then-not-is_plain.ensures w.piece-then-not-is_plain.ensures.piece) w.in_ok-faults_of.ensures)
+      | else-not-is_plain w ↦ scalars_plain c.loop-left.invariant c.loop-left-test.true (place c.in_ok-item.behind) x c.in_ok-item.ensures
+        c.if-not-is_plain.found w.found-is
+        (subst (IsPlain c.loop-left.current.at) (item_is _ _ x c.number.ensures c.piece.ensures.piece) (c.is_plain.ensures w.if-not-is_plain.false))
+    ]

@@ -1,10 +1,10 @@
-use Rattle.std.proofs.Common.{◌-◌}
-use Rattle.jsonb.specs.inner.Views.{place, passage_place}
-use Rattle.jsonb.proofs.Scalars.{ScalarsSoFar}
+use Rattle.jsonb.specs.inner.Views.{place}
+use Rattle.jsonb.proofs.Scalars.{ScalarsLeft}
 use Rattle.jsonb.proofs.search.scalars.Given as goal
 
-abbrev pub invariant-loop-passed : goal.invariant-loop-passed
-invariant-loop-passed l = ScalarsSoFar l.found l.count l.passed (passage_place l.current) (place l.frame.start)
+abbrev pub invariant-loop-left : goal.invariant-loop-left
+invariant-loop-left l =
+    ScalarsLeft l.found l.fn.frame.left l.left (place l.current) (place l.fn.frame.start)
 
-abbrev pub decreases-loop-passed : goal.decreases-loop-passed
-decreases-loop-passed l = l.count - l.passed
+abbrev pub decreases-loop-left : goal.decreases-loop-left
+decreases-loop-left l = l.left

@@ -19,7 +19,7 @@ returns-then-frame-eq0-clause-cause c =
     past_end c.args.frame.left (place c.args.frame.start) c.if-frame-eq0.true (eqb-false _ 0 (sym c.if-is_empty.ensures))
 
 pub returns-in-Ok-clause-found : goal.returns-in-Ok-clause-found
-returns-in-Ok-clause-found c = (put_off c.args.suspended.now.items c.push.new.self.items c.args.frame c.in-Ok.ensures.items).0
+returns-in-Ok-clause-found c = (put_off c.args.suspended.now.items c.push.new.self.items c.args.frame c.in-Ok.ensures.ok).0
 
 pub returns-in-Ok-clause-weight : goal.returns-in-Ok-clause-weight
-returns-in-Ok-clause-weight c = omega (arith, (put_off c.args.suspended.now.items c.push.new.self.items c.args.frame c.in-Ok.ensures.items).1)
+returns-in-Ok-clause-weight c = omega (arith, (put_off c.args.suspended.now.items c.push.new.self.items c.args.frame c.in-Ok.ensures.ok).1)

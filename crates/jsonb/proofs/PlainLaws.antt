@@ -1,0 +1,70 @@
+-- Scalars in which nothing is found: what is told of them at once.
+use Rattle.std.proofs.Common.{◌≡◌, ℕ, zero, suc, ◌+◌, ◌/◌, ◌%◌, ◌^◌, ◌≤◌, leb, List, [], ◌∷◌, length, take, drop, Option, Some, None, refl, sym, ap, subst, ◌∙◌, arith}
+use Rattle.std.specs.Prelude.{option_map}
+use Rattle.std.specs.Int.{w32, from_le_bytes}
+use Rattle.std.specs.Str.{IsAscii}
+use Rattle.std.proofs.lemmas.Bool.{leb-true}
+use Rattle.std.proofs.lemmas.List.{length-take-le}
+use Rattle.jsonb_layout.specs.Layout.{Item}
+use Rattle.jsonb_layout.specs.Options.{only_if}
+use Rattle.jsonb_layout.specs.inner.Reading.{Place, length_of, item_with, item_at, scalar_of}
+use Rattle.jsonb_layout.proofs.Tools.{bind_some, guard, some_is}
+use Rattle.jsonb.specs.declared.found.Found.{Found}
+use Rattle.jsonb.specs.Found.{nothing, scalar_found}
+use Rattle.jsonb.specs.inner.Widths.{IsPlain}
+use Rattle.jsonb.proofs.Texts.{ascii_text}
+
+-- nothing is found in an ASCII text
+pub plain_string : (at : ℕ) (piece : List ℕ) → IsAscii piece → IsPlain at (record { kind = 0; piece = piece })
+unfolding scalar_of
+plain_string at piece low = rw (ascii_text piece low) refl
+
+-- null and the truth values have no bytes, and nothing is found in them
+pub plain_literal : (at n : ℕ) (piece : List ℕ) → (n ≡ 0 → ⊥) → (n ≡ 1 → ⊥) → n ≤ 4 → length piece ≤ 0 → IsPlain at (record { kind = n; piece = piece })
+unfolding scalar_of
+plain_literal at zero piece a b c e = absurd (a refl)
+plain_literal at (suc zero) piece a b c e = absurd (b refl)
+plain_literal at (suc (suc zero)) [] a b c e = refl
+plain_literal at (suc (suc (suc zero))) [] a b c e = refl
+plain_literal at (suc (suc (suc (suc zero)))) [] a b c e = refl
+plain_literal at (suc (suc (suc (suc (suc n))))) piece a b c e = absurd (omega (arith, c))
+plain_literal at (suc (suc zero)) (x ∷ piece) a b c e = absurd (omega (arith, e))
+plain_literal at (suc (suc (suc zero))) (x ∷ piece) a b c e = absurd (omega (arith, e))
+plain_literal at (suc (suc (suc (suc zero)))) (x ∷ piece) a b c e = absurd (omega (arith, e))
+
+-- no container is a plain scalar
+pub plain_other : (at : ℕ) (x : Item) → IsPlain at x → x.kind ≡ 5 → ⊥
+unfolding scalar_of
+plain_other at x plain five = none_some (sym (kind_five at x five) ∙ plain)
+  where
+    kind_five : (at : ℕ) (x : Item) → x.kind ≡ 5 → option_map scalar_found (scalar_of at x) ≡ None
+    kind_five at x e = rw e refl
+
+    none_some : ◌≡◌ {A = Option Found} None (Some nothing) → ⊥
+    none_some e = absurd cc
+
+-- an item is its kind and its piece
+pub item_is : (n : ℕ) (piece : List ℕ) (x : Item) → n ≡ x.kind → piece ≡ x.piece → ◌≡◌ {A = Item} (record { kind = n; piece = piece }) x
+item_is n piece x e f =
+    ap (λ (k : ℕ). made k piece) e ∙ ap (made x.kind) f
+  where
+    made : ℕ → List ℕ → Item
+    made k p = record { kind = k; piece = p }
+
+-- the piece of the next item lies in front of what is left
+pub item_front : (p q : Place) (x : Item) → item_at p ≡ Some (x, q) → x.piece ≡ take (length x.piece) p.rest
+unfolding item_at
+item_front p q x e =
+    let w = from_le_bytes w32 (take 4 p.words) in
+    let g = guard (leb 4 (length p.words)) (item_with w p) (x, q) e in
+    let b = bind_some (length_of p.index p.at w) (λ n. only_if (leb n (length p.rest)) (Some (found w n))) (x, q) g.1 in
+    let h = guard (leb b.0 (length p.rest)) (Some (found w b.0)) (x, q) b.2 in
+    let room = leb-true b.0 (length p.rest) h.0 in
+    subst (λ (y : Item × Place). y.0.piece ≡ take (length y.0.piece) p.rest) (some_is (found w b.0) (x, q) h.1)
+    (ap (λ (k : ℕ). take k p.rest) (sym (length-take-le b.0 p.rest room)))
+  where
+    found : ℕ → ℕ → Item × Place
+    found w n = (
+      record { kind = w / 2 ^ 28 % 8; piece = take n p.rest },
+      record { index = p.index + 1; at = p.at + n; words = drop 4 p.words; rest = drop n p.rest },
+    )

@@ -1,7 +1,7 @@
 //! The items of a container, one after the other.
 
 ghost use Rattle.std.specs.Prelude.{◌≡◌, ◌+◌, ◌*◌, ◌≤◌, length, IfSome, option_map};
-ghost use Rattle.jsonb_layout.specs.inner.Reading.{length_of, item_at, item_with};
+ghost use Rattle.jsonb_layout.specs.inner.Reading.{item_at, item_with};
 ghost use Rattle.jsonb.specs.inner.Keys.{word_at};
 ghost use Rattle.jsonb.specs.inner.Values.{skip};
 ghost use Rattle.jsonb.specs.inner.Views.{place, item_then_place};
@@ -12,25 +12,6 @@ use crate::steps::Steps;
 use std::sync::ledger::Ledger;
 
 const HAS_OFFSET: u32 = 0x8000_0000;
-
-/// How long a piece is, by its entry word: each 32nd word gives the sum of all lengths so far.
-#[tactic(auto, unfolding(jsonb_layout::specs::inner::Reading::length_of))]
-fn piece_length(index: usize, at: usize, word: u32) -> Option<usize>
-    ensures { result ≡ length_of index at word }
-{
-    let field = (word % 0x1000_0000) as usize;
-    if index % 32 == 0 {
-        if word >= HAS_OFFSET && at <= field {
-            Some(field - at)
-        } else {
-            None
-        }
-    } else if word < HAS_OFFSET {
-        Some(field)
-    } else {
-        None
-    }
-}
 
 /// The entry word with this number, from 0, of those that are left.
 fn entry_word(words: &[u8], number: usize) -> u32
@@ -53,21 +34,34 @@ pub fn entry_word_counted<L: Ledger>(words: &[u8], number: usize, steps: &mut St
     entry_word(words, number)
 }
 
-/// The item at a place, which has this entry word, and the place behind it.
+/// The item at a place, which has this entry word, and the place behind it. Each 32nd word gives the sum of all lengths so far in place
+/// of a length.
+#[tactic(auto, unfolding(jsonb_layout::specs::inner::Reading::length_of))]
+#[inline(always)]
 fn item_of(word: u32, start: Place<'_>) -> Option<(Item<'_>, Place<'_>)>
     requires { 4 ≤ length start.words.now }
     ensures { option_map item_then_place result ≡ item_with word (place start.entry) }
 {
-    let length = piece_length(start.index, start.at, word)?;
-    if start.rest.len() < length {
+    let mut size = (word % 0x1000_0000) as usize;
+    if word < HAS_OFFSET {
+        if start.index % 32 == 0 {
+            return None;
+        }
+    } else {
+        if start.index % 32 != 0 || size < start.at {
+            return None;
+        }
+        size -= start.at;
+    }
+    if start.rest.len() < size {
         return None;
     }
-    let (piece, rest) = start.rest.split_at(length);
+    let (piece, rest) = start.rest.split_at(size);
     let (_, words) = start.words.split_at(4);
     let item = Item::new((word / 0x1000_0000 % 8) as u8, piece);
     let behind = Place {
         index: start.index + 1,
-        at: start.at + length,
+        at: start.at + size,
         words,
         rest,
     };
@@ -76,6 +70,7 @@ fn item_of(word: u32, start: Place<'_>) -> Option<(Item<'_>, Place<'_>)>
 
 /// The item at a place, and the place behind it.
 #[tactic(auto, unfolding(jsonb_layout::specs::inner::Reading::item_at))]
+#[inline(always)]
 pub fn next_item(start: Place<'_>) -> Option<(Item<'_>, Place<'_>)>
     ensures { option_map item_then_place result ≡ item_at (place start.entry) }
 {

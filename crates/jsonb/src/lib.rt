@@ -23,7 +23,7 @@
 //! low bytes first: entries hold lengths and, at each 32nd place, offsets; keys are in order of length and then of bytes;
 //! numbers and containers are at the next 4-byte place, after zero bytes. What is laid out otherwise is refused, trailing bytes
 //! too. So is a number that no decimal of 38 digits holds, and a text that is not UTF-8; [`JsonbError`] says which. Containers
-//! may nest as deep as a slice is long: the reader takes memory for the nesting alone, and no stack.
+//! may nest as deep as a slice is long: the reader takes memory for the nesting alone, past four containers that wait, and no stack.
 //!
 //! [`Jsonb`] is a representation of JSON too, by the trait `Json`: a [`JsonbBuffer`] holds the string of a node that is made from a
 //! text. `prepare_key` takes memory for a copy, and `string_node` only where the text is longer than any that the buffer held.

@@ -1,12 +1,13 @@
 -- Comparing bytes eight at a time.
-use Rattle.std.proofs.Common.{◌≡◌, ℕ, ◌+◌, ◌*◌, ◌<◌, Bool, true, false, eqb, ltb, ◌-◌, ◌≤◌, List, [], ◌∷◌, length, get_or, take, drop, refl, sym, ap, subst, ◌∙◌, arith}
+use Rattle.std.proofs.Common.{◌≡◌, ℕ, zero, suc, ◌+◌, ◌*◌, ◌<◌, Bool, true, false, eqb, ltb, ◌-◌, ◌≤◌, List, [], ◌∷◌, length, get_or, take, drop, refl, sym, ap, subst, ◌∙◌, arith, inl, inr}
 use Rattle.std.specs.Prelude.{◌||◌, ◌&&◌}
-use Rattle.std.specs.Int.{w64, from_be_bytes}
+use Rattle.std.specs.Int.{w64, from_be_bytes, to_be_bytes}
 use Rattle.std.proofs.lemmas.Bool.Decides.{nat_tests}
-use Rattle.std.proofs.lemmas.Bool.{ne_eqb}
-use Rattle.std.proofs.lemmas.List.{take_rest}
+use Rattle.std.proofs.lemmas.Bool.{ne_eqb, cases_eq}
+use Rattle.std.proofs.lemmas.List.{take_rest, take-take, length-take-le, length-drop, drop_all}
+use Rattle.std.proofs.lemmas.Nat.{be_bytes_8}
 use Rattle.jsonb.specs.inner.Keys.{first_eight}
-use Rattle.jsonb_layout.proofs.Tools.{IsBytes, IsBytes-drop}
+use Rattle.jsonb_layout.proofs.Tools.{IsBytes, IsBytes-drop, IsBytes-take}
 use Rattle.json_model.specs.Keys.{bytes_before}
 
 -- whether the number v comes before w, or they are one and what is behind decides
@@ -23,6 +24,9 @@ or_false false = refl
 
 same_decides : (v w : ℕ) (rest : Bool) → v ≡ w → decides v w rest ≡ rest
 same_decides v w rest e = grind (arith, nat_tests)
+
+less_same : (v w : ℕ) → v ≡ w → ltb v w ≡ false
+less_same v w e = grind (arith, nat_tests)
 
 abbrev four : ℕ → ℕ → ℕ → ℕ → ℕ
 four a b c d = ((a * 256 + b) * 256 + c) * 256 + d
@@ -132,3 +136,48 @@ eights_go_on a b x y v w so_far le me e f is =
 pub eights_rest : (a b x y : List ℕ) → EightsSoFar a b (drop 8 x) (drop 8 y)
     → EightsSoFar a b (take (length x - 8) (drop 8 x)) (take (length y - 8) (drop 8 y))
 eights_rest a b x y h = rw (take_rest x 8, take_rest y 8) h
+
+-- ---- of one length, from 8 to 16
+
+-- the front of bytes, by their first eight as one number
+front_is : (xs : List ℕ) → IsBytes xs → 8 ≤ length xs → to_be_bytes w64 (first_eight xs) ≡ take 8 xs
+front_is xs is le =
+    let p : take 8 xs ≡ get_or xs 0 0 ∷ get_or xs 1 0 ∷ get_or xs 2 0 ∷ get_or xs 3 0 ∷ get_or xs 4 0 ∷ get_or xs 5 0 ∷ get_or xs 6 0 ∷ get_or xs 7 0 ∷ [] =
+    ap (λ (ys : List ℕ). take 8 ys) (taken_apart xs le) in
+    be_bytes_8 (take 8 xs) (first_eight xs) (length-take-le 8 xs le) (IsBytes-take 8 xs is) (ap (λ (ys : List ℕ). from_be_bytes w64 ys) (sym p))
+
+-- the same bytes in front do not tell
+same_front : (n : ℕ) (xs ys : List ℕ) → n ≤ length xs → n ≤ length ys → take n xs ≡ take n ys → bytes_before xs ys ≡ bytes_before (drop n xs) (drop n ys)
+same_front zero xs ys le me e = refl
+same_front (suc n) [] ys le me e = absurd (omega (arith, le))
+same_front (suc n) (x ∷ xs) [] le me e = absurd (omega (arith, me))
+same_front (suc n) (x ∷ xs) (y ∷ ys) le me e =
+    let h : x ≡ y = ap (λ (zs : List ℕ). get_or zs 0 0) e in
+    let t : take n xs ≡ take n ys = ap (λ (zs : List ℕ). drop 1 zs) e in
+    same_decides x y (bytes_before xs ys) h ∙ same_front n xs ys (omega (arith, le)) (omega (arith, me)) t
+
+-- eight bytes and no more are compared as one number
+just_eight : (x y : List ℕ) → IsBytes x → IsBytes y → length x ≡ 8 → length y ≡ 8 → ltb (first_eight x) (first_eight y) ≡ bytes_before x y
+just_eight x y is are le me = elim (cases_eq (first_eight x) (first_eight y)) [
+  | inl e ↦ let h : take 8 x ≡ take 8 y = sym (front_is x is (omega (arith, le))) ∙ ap (to_be_bytes w64) e ∙ front_is y are (omega (arith, me)) in
+      let s = same_front 8 x y (omega (arith, le)) (omega (arith, me)) h in
+      let t : bytes_before (drop 8 x) (drop 8 y) ≡ false =
+      rw (drop_all 8 x (omega (arith, le)), drop_all 8 y (omega (arith, me))) refl in
+      less_same _ _ e ∙ sym (s ∙ t)
+  | inr n ↦ tell x y _ _ is are (omega (arith, le)) (omega (arith, me)) refl refl n
+]
+
+-- two runs of bytes of one length, from 8 to 16, of which the first eight are the same: the last eight tell
+pub last_tell : (x y : List ℕ) (v w : ℕ) → IsBytes x → IsBytes y → 8 ≤ length x → length x ≡ length y → length x ≤ 16
+    → first_eight x ≡ first_eight y → v ≡ first_eight (drop (length x - 8) x) → w ≡ first_eight (drop (length y - 8) y)
+    → ltb v w ≡ bytes_before x y
+last_tell x y v w is are le me short same e f =
+    let n = length x - 8 in
+    let k : length y - 8 ≡ n = omega (arith, me) in
+    let front : take 8 x ≡ take 8 y = sym (front_is x is le) ∙ ap (to_be_bytes w64) same ∙ front_is y are (omega (arith, le, me)) in
+    let fewer : take n x ≡ take n y =
+    sym (take-take n 8 x (omega (arith, short))) ∙ ap (λ (zs : List ℕ). take n zs) front ∙ take-take n 8 y (omega (arith, short)) in
+    let behind = same_front n x y (omega (arith, le)) (omega (arith, le, me)) fewer in
+    let lasts = just_eight (drop n x) (drop n y) (IsBytes-drop n x is) (IsBytes-drop n y are)
+    (omega (arith, length-drop n x, le)) (omega (arith, length-drop n y, le, me)) in
+    ap (λ (m : ℕ). ltb m w) e ∙ ap (λ (m : ℕ). ltb (first_eight (drop n x)) m) (f ∙ ap (λ (j : ℕ). first_eight (drop j y)) k) ∙ lasts ∙ sym behind

@@ -2,11 +2,11 @@ pub mod Texts
 pub mod Groups
 pub mod SmallNumbers
 pub mod FoundLaws
+pub mod NextItem
 pub mod KeyLoop
 pub mod KeyBytes
 pub mod KeyEnds
 pub mod Walks
-pub mod Passages
 pub mod PlainLaws
 pub mod Scalars
 pub mod LeapLaws

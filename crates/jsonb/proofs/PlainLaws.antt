@@ -1,14 +1,9 @@
 -- Scalars in which nothing is found: what is told of them at once.
-use Rattle.std.proofs.Common.{◌≡◌, ℕ, zero, suc, ◌+◌, ◌/◌, ◌%◌, ◌^◌, ◌≤◌, leb, List, [], ◌∷◌, length, take, drop, Option, Some, None, refl, sym, ap, subst, ◌∙◌, arith}
+use Rattle.std.proofs.Common.{◌≡◌, ℕ, zero, suc, ◌≤◌, List, [], ◌∷◌, length, Option, Some, None, refl, sym, ap, ◌∙◌, arith}
 use Rattle.std.specs.Prelude.{option_map}
-use Rattle.std.specs.Int.{w32, from_le_bytes}
 use Rattle.std.specs.Str.{IsAscii}
-use Rattle.std.proofs.lemmas.Bool.{leb-true}
-use Rattle.std.proofs.lemmas.List.{length-take-le}
 use Rattle.jsonb_layout.specs.Layout.{Item}
-use Rattle.jsonb_layout.specs.Options.{only_if}
-use Rattle.jsonb_layout.specs.inner.Reading.{Place, length_of, item_with, item_at, scalar_of}
-use Rattle.jsonb_layout.proofs.Tools.{bind_some, guard, some_is}
+use Rattle.jsonb_layout.specs.inner.Reading.{scalar_of}
 use Rattle.jsonb.specs.declared.found.Found.{Found}
 use Rattle.jsonb.specs.Found.{nothing, scalar_found}
 use Rattle.jsonb.specs.inner.Widths.{IsPlain}
@@ -50,21 +45,3 @@ item_is n piece x e f =
   where
     made : ℕ → List ℕ → Item
     made k p = record { kind = k; piece = p }
-
--- the piece of the next item lies in front of what is left
-pub item_front : (p q : Place) (x : Item) → item_at p ≡ Some (x, q) → x.piece ≡ take (length x.piece) p.rest
-unfolding item_at
-item_front p q x e =
-    let w = from_le_bytes w32 (take 4 p.words) in
-    let g = guard (leb 4 (length p.words)) (item_with w p) (x, q) e in
-    let b = bind_some (length_of p.index p.at w) (λ n. only_if (leb n (length p.rest)) (Some (found w n))) (x, q) g.1 in
-    let h = guard (leb b.0 (length p.rest)) (Some (found w b.0)) (x, q) b.2 in
-    let room = leb-true b.0 (length p.rest) h.0 in
-    subst (λ (y : Item × Place). y.0.piece ≡ take (length y.0.piece) p.rest) (some_is (found w b.0) (x, q) h.1)
-    (ap (λ (k : ℕ). take k p.rest) (sym (length-take-le b.0 p.rest room)))
-  where
-    found : ℕ → ℕ → Item × Place
-    found w n = (
-      record { kind = w / 2 ^ 28 % 8; piece = take n p.rest },
-      record { index = p.index + 1; at = p.at + n; words = drop 4 p.words; rest = drop n p.rest },
-    )

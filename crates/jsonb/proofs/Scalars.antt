@@ -84,9 +84,10 @@ module _ {f : Found} {n left : ℕ} {p start : Place} (so_far : ScalarsLeft f n 
       → ScalarsLeft h n (left - 1) q start
   scalars_one_more other g h is there =
       let i : n - left + 1 ≡ n - (left - 1) = omega (arith, so_far.1, some) in
-      let more = scalars_go_on so_far.0 (omega (arith, so_far.1, some)) q x e other g there in
-      (subst (λ (a : Found). ScalarsSoFar a n (n - (left - 1)) q start) (sym is) (subst (λ (j : ℕ). ScalarsSoFar (both f g) n j q start) i more),
-      omega (arith, so_far.1))
+      let more = scalars_go_on so_far.0 (omega (arith, so_far.1, some)) q x e other g there in (
+        subst (λ (a : Found). ScalarsSoFar a n (n - (left - 1)) q start) (sym is) (subst (λ (j : ℕ). ScalarsSoFar (both f g) n j q start) i more),
+        omega (arith, so_far.1),
+      )
 
   -- and nothing is found in a plain one
   pub scalars_plain : (h : Found) → h ≡ f → IsPlain p.at x → ScalarsLeft h n (left - 1) q start

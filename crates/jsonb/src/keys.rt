@@ -1,19 +1,18 @@
 //! The keys of an object.
 
-ghost use Rattle.std.specs.Prelude.{◌≡◌, ◌==◌, ◌&&◌, ◌≤◌, length, None, Some, option_map};
+ghost use Rattle.std.specs.Prelude.{◌≡◌, ◌==◌, ◌&&◌, ◌≤◌, ◌-◌, length, drop, None, Some, option_map};
 ghost use Rattle.json_model.specs.Keys.{bytes_before, key_before};
 ghost use Rattle.jsonb_layout.specs.inner.Reading.{follows, keys_at};
 ghost use Rattle.jsonb.specs.Found.{nothing, keys_after};
-ghost use Rattle.jsonb.specs.inner.Keys.{keys_end, first_eight};
-ghost use Rattle.jsonb.specs.inner.Views.{place, found_then_place};
+ghost use Rattle.jsonb.specs.inner.Keys.{key_at, keys_end, first_eight};
+ghost use Rattle.jsonb.specs.inner.Views.{place, key_then_place, found_then_place};
 
 use crate::ascii::is_ascii;
 use crate::found::Found;
 use crate::item::Item;
-use crate::passage::Passage;
 use crate::place::Place;
 use crate::scalar::is_text;
-use crate::walk::next_item;
+use crate::walk::{first_item, next_item};
 
 /// Whether bytes come before others, byte by byte.
 fn last_bytes_come_before(a: &[u8], b: &[u8]) -> bool
@@ -23,6 +22,7 @@ fn last_bytes_come_before(a: &[u8], b: &[u8]) -> bool
 }
 
 /// The first eight bytes as one number, of which the first counts most.
+#[inline(always)]
 fn first_eight(bytes: &[u8]) -> u64
     requires { 8 ≤ length bytes.now }
     ensures { result ≡ first_eight bytes.now }
@@ -30,6 +30,16 @@ fn first_eight(bytes: &[u8]) -> u64
     u64::from_be_bytes([
         bytes[0], bytes[1], bytes[2], bytes[3], bytes[4], bytes[5], bytes[6], bytes[7],
     ])
+}
+
+/// The last eight bytes as one number, of which the first counts most.
+#[inline(always)]
+fn last_eight(bytes: &[u8]) -> u64
+    requires { 8 ≤ length bytes.now }
+    ensures { result ≡ first_eight (drop (length bytes.now - 8) bytes.now) }
+{
+    let (_, last) = bytes.split_at(bytes.len() - 8);
+    first_eight(last)
 }
 
 /// Whether bytes come before others, eight at a time.
@@ -50,7 +60,8 @@ fn long_bytes_come_before(a: &[u8], b: &[u8]) -> bool
     last_bytes_come_before(x, y)
 }
 
-/// Whether bytes come before others: mostly their first eight tell.
+/// Whether bytes come before others. Of two of one length, from 8 to 16, the first eight and the last eight tell, which overlap.
+#[inline(always)]
 fn bytes_come_before(a: &[u8], b: &[u8]) -> bool
     ensures { result ≡ bytes_before a.now b.now }
 {
@@ -60,11 +71,15 @@ fn bytes_come_before(a: &[u8], b: &[u8]) -> bool
         if v != w {
             return v < w;
         }
+        if a.len() == b.len() && a.len() <= 16 {
+            return last_eight(a) < last_eight(b);
+        }
     }
     long_bytes_come_before(a, b)
 }
 
 /// Whether a key comes before another: a shorter one does, and of two of one length the one with the lower bytes.
+#[inline(always)]
 pub fn comes_before(a: &[u8], b: &[u8]) -> bool
     ensures { result ≡ key_before a.now b.now }
 {
@@ -89,29 +104,42 @@ fn is_key(before: Option<&[u8]>, item: &Item<'_>) -> bool
     item.is_string() && rises(before, item.piece())
 }
 
-/// Whether an item is a key that comes after another.
-fn is_later_key(before: &[u8], item: &Item<'_>) -> bool
-    ensures { result ≡ (item.now.kind == 0 && follows (Some before.now) item.now.piece) }
+/// The key at a place, and the place behind it. None where the item is no string.
+#[tactic(auto, unfolding(jsonb_layout::specs::inner::Reading::item_at))]
+#[inline(always)]
+fn next_key(start: Place<'_>) -> Option<(&[u8], Place<'_>)>
+    requires { 4 ≤ length start.words.now }
+    ensures { option_map key_then_place result ≡ key_at (place start.entry) }
 {
-    item.is_string() && comes_before(before, item.piece())
+    let (item, behind) = first_item(start)?;
+    if item.is_string() {
+        Some((item.piece(), behind))
+    } else {
+        None
+    }
 }
 
 /// Where so many keys end that come after one. None where one of them is no key or does not rise.
+/// One look tells whether all their entry words are there.
+#[inline(never)]
 fn later_keys_end<'a>(count: usize, first: &[u8], start: Place<'a>) -> Option<Place<'a>>
     ensures { option_map place result
         ≡ keys_end (keys_at count (Some first.now) (place start.entry)) }
 {
-    let mut current = Passage::new(start);
+    if start.words.len() / 4 < count {
+        return None;
+    }
+    let mut current = start;
     let mut before = first;
     for _ in 0..count {
-        let (item, behind) = current.next_item()?;
-        if !is_later_key(before, &item) {
+        let (key, behind) = next_key(current)?;
+        if !comes_before(before, key) {
             return None;
         }
-        before = item.piece();
+        before = key;
         current = behind;
     }
-    Some(current.place())
+    Some(current)
 }
 
 /// Where so many keys end. None where one of them is no key or does not rise.

@@ -60,7 +60,6 @@ mod number;
 mod numeric;
 mod object;
 mod opening;
-mod passage;
 mod place;
 mod root;
 mod scalar;

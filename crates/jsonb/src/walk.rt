@@ -68,6 +68,16 @@ fn item_of(word: u32, start: Place<'_>) -> Option<(Item<'_>, Place<'_>)>
     Some((item, behind))
 }
 
+/// The item at a place before an entry word, and the place behind it.
+#[tactic(auto, unfolding(jsonb_layout::specs::inner::Reading::item_at))]
+#[inline(always)]
+pub fn first_item(start: Place<'_>) -> Option<(Item<'_>, Place<'_>)>
+    requires { 4 ≤ length start.words.now }
+    ensures { option_map item_then_place result ≡ item_at (place start.entry) }
+{
+    item_of(entry_word(start.words, 0), start)
+}
+
 /// The item at a place, and the place behind it.
 #[tactic(auto, unfolding(jsonb_layout::specs::inner::Reading::item_at))]
 #[inline(always)]
@@ -77,7 +87,7 @@ pub fn next_item(start: Place<'_>) -> Option<(Item<'_>, Place<'_>)>
     if start.words.len() < 4 {
         return None;
     }
-    item_of(entry_word(start.words, 0), start)
+    first_item(start)
 }
 
 /// The item at a place, and a step for its entry word.

@@ -1,25 +1,26 @@
-use Rattle.std.proofs.Common.{List, ℕ, ◌+◌, subst, sym}
-use Rattle.jsonb.specs.inner.Views.{place, passage_place}
-use Rattle.jsonb.proofs.KeyEnds.{EndsSoFar, ends_begin, ends_miss, ends_stop, ends_go_on, ends_done}
+use Rattle.jsonb.specs.inner.Views.{place}
+use Rattle.jsonb.proofs.KeyEnds.{few_words, ends_begin, ends_word, ends_miss, ends_stop, ends_go_on, ends_done}
 use Rattle.jsonb.proofs.keys.later_keys_end.Goals as goal
 
+pub returns-then-start-count : goal.returns-then-start-count
+returns-then-start-count c = few_words c.args.count _ (place c.args.start) c.if-start-count.true
+
 pub loop-init : goal.loop-init
-loop-init c = ends_begin _ _ _ _ c.new-current.ensures
+loop-init c = ends_begin c.args.count c.args.first.now (place c.args.start) c.if-start-count.false
 
-pub returns-in_err-item : goal.returns-in_err-item
-returns-in_err-item c = rw c.from_residual.ensures (ends_miss c.loop.invariant c.loop-test.true c.in_err-item.ensures)
+pub next_key-requires : goal.next_key-requires
+next_key-requires c = ends_word c.loop.invariant c.loop-test.true
 
-pub returns-then-not-is_later_key : goal.returns-then-not-is_later_key
-returns-then-not-is_later_key c =
-    ends_stop c.loop.invariant (passage_place c.in_ok-item.behind) c.in_ok-item.item c.loop-test.true c.in_ok-item.ensures
-    c.if-not-is_later_key.ensures
+pub returns-in_err-key : goal.returns-in_err-key
+returns-in_err-key c = rw c.from_residual.ensures (ends_miss c.loop.invariant c.loop-test.true c.in_err-key.ensures)
+
+pub returns-then-not-comes_before : goal.returns-then-not-comes_before
+returns-then-not-comes_before c =
+    ends_stop c.loop.invariant (place c.in_ok-key.behind) c.in_ok-key.key.now c.loop-test.true c.in_ok-key.ensures c.if-not-comes_before.ensures
 
 pub loop-preserved : goal.loop-preserved
 loop-preserved c =
-    subst (λ (k : List ℕ). EndsSoFar c.args.count (c.loop.counter + 1) k c.args.first.now (passage_place c.in_ok-item.behind) (place c.args.start))
-    (sym c.piece-before.ensures.piece)
-    (ends_go_on c.loop.invariant (passage_place c.in_ok-item.behind) c.in_ok-item.item c.loop-test.true c.in_ok-item.ensures
-    c.if-not-is_later_key.ensures)
+    ends_go_on c.loop.invariant (place c.in_ok-key.behind) c.in_ok-key.key.now c.loop-test.true c.in_ok-key.ensures c.if-not-comes_before.ensures
 
 pub returns : goal.returns
-returns c = ends_done c.loop.invariant (place c.place.result) c.place.ensures c.loop-test.false
+returns c = ends_done c.loop.invariant c.loop-test.false

@@ -14,10 +14,10 @@ returns-then-number-eq1 c told =
 pub returns : goal.returns
 returns c told = elim c.if-number-eq0.branch [
   | then-number-eq0 w ↦ subst
-    (λ (n : ℕ). IsPlain c.args.at (record { kind = n; piece = c.args.piece.now }))
-    (sym w.if-number-eq0.true)
-    (plain_string c.args.at c.args.piece.now (c.ascii_room-room.ensures
-    (leb-true _ _ (subst (λ (n : ℕ). IsTrue (leb (length c.args.piece.now) n)) w.result-is told))))
+      (λ (n : ℕ). IsPlain c.args.at (record { kind = n; piece = c.args.piece.now }))
+      (sym w.if-number-eq0.true)
+      (plain_string c.args.at c.args.piece.now (c.ascii_room-room.ensures
+      (leb-true _ _ (subst (λ (n : ℕ). IsTrue (leb (length c.args.piece.now) n)) w.result-is told))))
   | else-number-eq0 w ↦ plain_literal c.args.at c.args.number c.args.piece.now w.if-number-eq0.false c.if-number-eq1.false c.if-number-gt4.false
-    (leb-true _ _ (subst (λ (n : ℕ). IsTrue (leb (length c.args.piece.now) n)) w.result-is told))
+      (leb-true _ _ (subst (λ (n : ℕ). IsTrue (leb (length c.args.piece.now) n)) w.result-is told))
 ]

@@ -6,7 +6,8 @@ use Rattle.jsonb_layout.specs.inner.Reading.{scalar_of}
 use Rattle.jsonb.specs.Found.{scalar_found}
 use Rattle.jsonb.specs.inner.Views.{place}
 use Rattle.jsonb.specs.inner.Widths.{IsPlain}
-use Rattle.jsonb.proofs.PlainLaws.{item_is, item_front}
+use Rattle.jsonb.proofs.NextItem.{piece_is}
+use Rattle.jsonb.proofs.PlainLaws.{item_is}
 use Rattle.jsonb.proofs.Scalars.{scalars_miss, scalars_stop, scalars_one_more, scalars_plain}
 use Rattle.jsonb.proofs.search.scalars.Goals as goal
 use Rattle.jsonb.proofs.search.scalars.Goals.{then-not-is_plain+else-is_container+in_ok-faults_of, else-not-is_plain}
@@ -17,7 +18,7 @@ returns-in_err-item-clause-found c =
     (scalars_miss c.loop-left.invariant.0 (omega (arith, c.loop-left-test.true, c.loop-left.invariant.1)) c.in_err-item.ensures)
 
 pub is_plain-requires : goal.is_plain-requires
-is_plain-requires c = rw c.piece.ensures.piece (item_front (place c.loop-left.current) (place c.in_ok-item.behind) c.in_ok-item.item (sym c.in_ok-item.ensures))
+is_plain-requires c = rw c.piece.ensures.piece (piece_is (place c.loop-left.current) (place c.in_ok-item.behind) c.in_ok-item.item (sym c.in_ok-item.ensures))
 
 pub returns-in_err-faults_of-clause-found : goal.returns-in_err-faults_of-clause-found
 returns-in_err-faults_of-clause-found c =
@@ -33,11 +34,11 @@ loop-left-preserved c =
     let x = c.in_ok-item.item in
     elim c.if-not-is_plain.branch [
       | then-not-is_plain+else-is_container+in_ok-faults_of w ↦ scalars_one_more c.loop-left.invariant c.loop-left-test.true (place c.in_ok-item.behind)
-        x c.in_ok-item.ensures (eqb-false x.kind 5 (sym w.if-is_container.ensures)) w.in_ok-faults_of.field-0 c.if-not-is_plain.found
-        (w.found-is ∙ w.with-found.ensures)
-        (subst (λ (y : Item). Some w.in_ok-faults_of.field-0 ≡ option_map scalar_found (scalar_of c.loop-left.current.at y))
-        (item_is _ _ x w.number-then-not-is_plain.ensures w.piece-then-not-is_plain.ensures.piece) w.in_ok-faults_of.ensures)
+          x c.in_ok-item.ensures (eqb-false x.kind 5 (sym w.if-is_container.ensures)) w.in_ok-faults_of.field-0 c.if-not-is_plain.found
+          (w.found-is ∙ w.with-found.ensures)
+          (subst (λ (y : Item). Some w.in_ok-faults_of.field-0 ≡ option_map scalar_found (scalar_of c.loop-left.current.at y))
+          (item_is _ _ x w.number-then-not-is_plain.ensures w.piece-then-not-is_plain.ensures.piece) w.in_ok-faults_of.ensures)
       | else-not-is_plain w ↦ scalars_plain c.loop-left.invariant c.loop-left-test.true (place c.in_ok-item.behind) x c.in_ok-item.ensures
-        c.if-not-is_plain.found w.found-is
-        (subst (IsPlain c.loop-left.current.at) (item_is _ _ x c.number.ensures c.piece.ensures.piece) (c.is_plain.ensures w.if-not-is_plain.false))
+          c.if-not-is_plain.found w.found-is
+          (subst (IsPlain c.loop-left.current.at) (item_is _ _ x c.number.ensures c.piece.ensures.piece) (c.is_plain.ensures w.if-not-is_plain.false))
     ]

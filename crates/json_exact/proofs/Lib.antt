@@ -31,6 +31,7 @@ pub mod ParseLaws
 pub mod CutLaws
 pub mod TextLiteralLaws
 pub mod NestLaws
+mod CopyLaws
 pub mod InsertLaws
 pub mod SerdeOrderLaws
 pub mod SerdeTreeLaws

@@ -56,20 +56,20 @@ fn clone_members(alloc: Global, members: &Map) -> Result<Map, OutOfMemory>
 {
     let mut copies = Map::new(alloc);
     for (name, value) in members.iter() {
-        let key = String::from_str(alloc, name)?;
         let copy = clone_value(alloc, value)?;
-        put(&mut copies, key, copy)?;
+        put(alloc, &mut copies, name, copy)?;
     }
     // The members of both rise by key: so those that have the same look-ups are the same.
     let _members = copies.iter();
     Ok(copies)
 }
 
-/// Puts a value under a key.
-fn put(members: &mut Map, key: String, value: Value) -> Result<(), OutOfMemory>
+/// Puts a value under a key of its own.
+fn put(alloc: Global, members: &mut Map, name: &str, value: Value) -> Result<(), OutOfMemory>
     ensures { OnOk result ((k : List ℕ) → lookup k (pairs members.new)
-        ≡ (if bytes_eq k (string_bytes key) then Some (tree value) else lookup k (pairs members.old))) }
+        ≡ (if bytes_eq k name.now then Some (tree value) else lookup k (pairs members.old))) }
 {
+    let key = String::from_str(alloc, name)?;
     let _replaced = members.insert(key, value)?;
     Ok(())
 }

@@ -1,6 +1,6 @@
 -- When a tree is the same as one of a kind.
-use Rattle.std.proofs.Common.{arith, ◌≡◌, ◌+◌, ◌≤◌, ◌<◌, ℕ, ℤ, Bool, List, [], ◌∷◌, Some, drop, length, map, get_or, refl, sym, ap, subst, suc, ◌∙◌}
-use Rattle.std.specs.Prelude.{IsTrue, ◌↔◌}
+use Rattle.std.proofs.Common.{rules, arith, Vec, Global, String, ◌≡◌, ◌+◌, ◌≤◌, ◌<◌, ℕ, ℤ, Bool, List, [], ◌∷◌, Some, drop, length, map, get_or, refl, sym, ap, subst, suc, ◌∙◌}
+use Rattle.std.specs.Prelude.{IsTrue, ◌↔◌, string_bytes}
 use Rattle.std.specs.Ordering.{int_eq}
 use Rattle.std.proofs.lemmas.Bool.Decides.{Decides-int_eq}
 use Rattle.std.proofs.lemmas.List.{drop_all, length-map}
@@ -8,10 +8,13 @@ use Rattle.std.proofs.Math.ListN.{get_or-map}
 use Rattle.json_model.specs.Decimal.{Decimal as Written, IsSameValue}
 use Rattle.json_model.specs.Parts.{elements_from, elements_of, if_array, if_object, members_from, pairs_of}
 use Rattle.json_model.specs.Same.{Same, SameElements}
-use Rattle.json_model.specs.Tree.{Tree, array, object, Elements}
+use Rattle.json_model.specs.Tree.{Tree, scalar, null, boolean, number, string, array, object, Elements}
 use Rattle.json_exact.specs.Exact.{IsWorth}
-use Rattle.json_exact.specs.Trees.{tree as value_tree}
-use Rattle.json_exact.specs.declared.value.Value.{Value}
+use Rattle.json_exact.specs.Trees.{tree as value_tree, pairs}
+use Rattle.json_exact.specs.declared.value.Value.{Value, Null, Array, Object, the_lemmas}
+use Rattle.json_exact.specs.declared.number.Number.{Number}
+use Rattle.json_exact.specs.declared.map.Map.{Map}
+use Rattle.json_exact.proofs.TreeLaws.{tree-array, tree-object}
 use Rattle.json_exact.proofs.WorthLaws.{same_as_written}
 use Rattle.json_model.proofs.KindLaws.{if_object_is, pairs_in_from}
 use Rattle.json_traits.proofs.ShapeLaws.{array_is_made, array_shape, object_is_made, object_shape}
@@ -107,3 +110,30 @@ objects_same t u v w e f =
 -- objects that are the same have as many members
 pub pairs_counted : (ps qs : List (List ℕ × Tree)) → Same (object (members_from ps)) (object (members_from qs)) → length ps ≡ length qs
 pairs_counted ps qs s = sym (ap length (pairs_in_from ps)) ∙ s.0 ∙ ap length (pairs_in_from qs)
+
+-- the tree of a value, by what the value is
+module _ (v : Value) where
+  pub null_tree : v ≡ Null → value_tree v ≡ scalar null
+  null_tree e = let h : value_tree Null ≡ scalar null = search (rules, the_lemmas) in ap value_tree e ∙ h
+
+  pub boolean_tree : (b : Bool) → v ≡ Value.Bool b → value_tree v ≡ scalar (boolean b)
+  boolean_tree b e = let h : value_tree (Value.Bool b) ≡ scalar (boolean b) = search (rules, the_lemmas) in ap value_tree e ∙ h
+
+  pub number_tree : (n : Number) → v ≡ Value.Number n → value_tree v ≡ scalar (number n)
+  number_tree n e = let h : value_tree (Value.Number n) ≡ scalar (number n) = search (rules, the_lemmas) in ap value_tree e ∙ h
+
+  pub string_tree : (s : String Global) (x : List ℕ) → v ≡ Value.String s → x ≡ string_bytes s → value_tree v ≡ scalar (string x)
+  string_tree s x e is =
+      let h : value_tree (Value.String s) ≡ scalar (string (string_bytes s)) = search (rules, the_lemmas) in
+      ap value_tree e ∙ h ∙ ap (λ (y : List ℕ). scalar (string y)) (sym is)
+
+  pub array_tree : (vs : Vec Value Global) (ws : List Value) → v ≡ Array vs → ws ≡ vs.items → value_tree v ≡ array (elements_from (map value_tree ws))
+  array_tree vs ws e is =
+      ap value_tree e ∙ tree-array vs ∙ ap (λ (us : List Value). array (elements_from (map value_tree us))) (sym is)
+
+  pub object_tree : (m : Map) → v ≡ Object m → value_tree v ≡ object (members_from (pairs m))
+  object_tree m e = ap value_tree e ∙ tree-object m
+
+  -- a test of the tree is a test of the value's
+  pub same_as : (t u : Tree) {b : Bool} → value_tree v ≡ u → IsTrue b ↔ Same t u → IsTrue b ↔ Same t (value_tree v)
+  same_as t u {b = b} is h = subst (λ (w : Tree). IsTrue b ↔ Same t w) (sym is) h

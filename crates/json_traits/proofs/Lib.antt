@@ -8,6 +8,7 @@ mod WeightLaws
 pub mod ShapeLaws
 pub mod RisingLaws
 pub mod WalkLaws
+mod MeasureLaws
 pub mod PlaceLaws
 pub mod EqualityLaws
 pub mod BuildingLaws

@@ -63,10 +63,9 @@ fn build_members<F: NodeFamily>(alloc: Global, object: &F::Object) -> Result<Map
 {
     let mut members = Map::new(alloc);
     for member in F::members(object) {
-        let name = F::key(&member);
-        let key = String::from_str(alloc, F::as_str(&name))?;
         let value = build::<F>(alloc, &F::value(&member))?;
-        put(&mut members, key, value)?;
+        let name = F::key(&member);
+        put(alloc, &mut members, F::as_str(&name), value)?;
     }
     // The members of both rise by key: so those that have the same look-ups are the same.
     let _members = members.iter();
@@ -83,11 +82,12 @@ fn push(values: &mut Vec<Value>, value: Value) -> Result<(), OutOfMemory>
     }
 }
 
-/// Puts a value under a key.
-fn put(members: &mut Map, key: String, value: Value) -> Result<(), OutOfMemory>
+/// Puts a value under a key of its own.
+fn put(alloc: Global, members: &mut Map, name: &str, value: Value) -> Result<(), OutOfMemory>
     ensures { OnOk result ((k : List ℕ) → lookup k (pairs members.new)
-        ≡ (if bytes_eq k (string_bytes key) then Some (value_tree value) else lookup k (pairs members.old))) }
+        ≡ (if bytes_eq k name.now then Some (value_tree value) else lookup k (pairs members.old))) }
 {
+    let key = String::from_str(alloc, name)?;
     let _replaced = members.insert(key, value)?;
     Ok(())
 }

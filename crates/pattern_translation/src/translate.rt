@@ -1,10 +1,13 @@
 //! The text for Rust of a pattern.
 
-ghost use Rattle.std.specs.Prelude.{◌≡◌, ◌<◌, ◌^◌, length, IfOk, IfErr};
+ghost use Rattle.std.specs.Prelude.{◌≡◌, ◌<◌, ◌^◌, length, true, None, IfOk, IfErr};
 ghost use Rattle.std.specs.Str.{chars};
 ghost use Rattle.std.specs.Cow.{cow_str_bytes};
 ghost use lib.Utf8.{encodes};
 ghost use Rattle.pattern_model.specs.Text.{Text};
+ghost use Rattle.pattern_model.specs.Grammar.{Grammar};
+ghost use Rattle.pattern_model.specs.Tree.{Tree};
+ghost use Rattle.rust_pattern_model.specs.Refusals.{refusal};
 ghost use Rattle.rust_pattern_model.specs.Translation.{Translates};
 ghost use Rattle.rust_pattern_model.specs.Alike.{IsAlike};
 ghost use Rattle.pattern_translation.specs.TranslateErrors.{IsCause};
@@ -37,22 +40,30 @@ pub fn to_rust_regex<'a>(alloc: Global, pattern: &'a str) -> Result<CowStr<'a>, 
         × (cow_str_bytes s ≡ encodes w)) }
     ensures refused { IfErr result (λ e. IsCause e (chars pattern.now)) }
 {
+    check_translated(alloc, pattern)?;
+    let text = write_pattern(alloc, pattern)?;
+    if text.as_str() == pattern {
+        Ok(CowStr::Borrowed(pattern))
+    } else {
+        Ok(CowStr::Owned(text))
+    }
+}
+
+/// Checks that a pattern is of the widened grammar, and that there is no cause to refuse it.
+fn check_translated(alloc: Global, pattern: &str) -> Result<(), TranslateError>
+    requires { length pattern.now < 2 ^ 30 }
+    ensures kept { IfOk result (λ _. (t : Tree) × Grammar true (chars pattern.now) t
+        × (refusal (chars pattern.now) t ≡ None)) }
+    ensures refused { IfErr result (λ e. IsCause e (chars pattern.now)) }
+{
     let Some(tree) = read_widened(alloc, pattern)? else {
         return Err(TranslateError::Invalid);
     };
     let facts = tree_facts(alloc, &tree)?;
-    let cause = find_cause(alloc, pattern, &tree, facts)?;
-    match cause {
+    match find_cause(alloc, pattern, &tree, facts)? {
         Some(Cause::LookAround) => Err(TranslateError::LookAround),
         Some(Cause::BackReference) => Err(TranslateError::BackReference),
         Some(Cause::Unsupported) => Err(TranslateError::Unsupported),
-        None => {
-            let text = write_pattern(alloc, pattern)?;
-            if text.as_str() == pattern {
-                Ok(CowStr::Borrowed(pattern))
-            } else {
-                Ok(CowStr::Owned(text))
-            }
-        }
+        None => Ok(()),
     }
 }

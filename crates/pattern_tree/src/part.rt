@@ -71,7 +71,6 @@ pub fn alternative(
 }
 
 /// The node of all that is read of a group, whose inside ends at `end`.
-#[tactic(auto, using(crate::proofs::NodeLemmas::opt_tree_adds, crate::proofs::NodeLemmas::adds_twice, crate::proofs::NodeLemmas::length_trees))]
 pub fn close(nodes: &mut Vec<Node>, part: Part, end: usize) -> Result<u32, AllocError>
     requires room { length nodes.old.items + 1 < 2 ^ 32 }
     requires part { InPart (length nodes.old.items) part }

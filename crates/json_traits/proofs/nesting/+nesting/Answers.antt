@@ -1,6 +1,8 @@
-use Rattle.std.proofs.Common.{◌≤◌, refl, sym, subst, arith, length, length-append}
-use Rattle.json_model.specs.Nest.{nest}
-use Rattle.json_model.specs.Parts.{elements_of, pairs_of}
+use Rattle.std.proofs.Common.{◌≡◌, ◌≤◌, false, true, refl, sym, subst, length, length-append}
+use Rattle.std.proofs.lemmas.Bool.{false≢true, iff_false}
+use Rattle.json_model.specs.Nest.{nest, nest_elements, nest_members}
+use Rattle.json_model.specs.Parts.{elements_from, elements_of, members_from, pairs_of}
+use Rattle.json_traits.proofs.MeasureLaws.{one_deeper}
 use Rattle.json_traits.proofs.GivesLaws.{left_item, left_end}
 use Rattle.json_traits.proofs.ShapeLaws.{array_nests, object_nests}
 use Rattle.json_traits.proofs.WalkLaws.{goes_on, stops, ends, elements_within, members_within}
@@ -19,9 +21,10 @@ elements_nest_within-returns-then-not-nests_within g t c =
     let xs = elements_of (g.F.Array.HasTree.tree c.args.array.now) in
     let k = length c.loop-element.yielded in
     let r = left_item {j = c.next.new.self} xs k c.loop-element.invariant.left c.in-Some.ensures.steps in (
-      λ h. absurd cc,
-      λ q. absurd (stops (λ u. nest u ≤ c.args.limit) xs k _ c.loop-element.invariant.decides _ r.0.back (λ p. let y = c.nests_within.ensures.1 p in
-          let n = c.if-not-nests_within.true in absurd cc) q),
+      λ h. absurd (false≢true h),
+      λ q. absurd {A = false ≡ true} (stops (λ u. nest u ≤ c.args.limit) xs k (nest_elements
+          (elements_from xs) ≤ c.args.limit) c.loop-element.invariant.decides (g.F.Node.HasTree.tree c.in-Some.element) r.0.back
+          (iff_false c.nests_within.ensures c.if-not-nests_within.true) q),
     )
 
 pub elements_nest_within-loop-element-preserved : goal.elements_nest_within-loop-element-preserved
@@ -34,15 +37,16 @@ elements_nest_within-loop-element-preserved g t c =
       ends = (c.in-Some.ensures.goes.on c.loop-element.invariant.ends).1;
       left = simp length-append r.1;
       decides =
-          simp length-append (goes_on (λ u. nest u ≤ c.args.limit) xs k _ c.loop-element.invariant.decides _ r.0.back
-          (c.nests_within.ensures.0 (let n = c.if-not-nests_within.false in cc)));
+          simp length-append (goes_on (λ u. nest u ≤ c.args.limit) xs k (nest_elements (elements_from xs) ≤ c.args.limit)
+          c.loop-element.invariant.decides (g.F.Node.HasTree.tree c.in-Some.element) r.0.back
+          (c.nests_within.ensures.0 c.if-not-nests_within.false));
     }
 
 pub elements_nest_within-returns : goal.elements_nest_within-returns
 elements_nest_within-returns g t c =
     let xs = elements_of (g.F.Array.HasTree.tree c.args.array.now) in
     let k = length c.loop-element.yielded in
-    let all = ends (λ u. nest u ≤ c.args.limit) xs k _ c.loop-element.invariant.decides
+    let all = ends (λ u. nest u ≤ c.args.limit) xs k (nest_elements (elements_from xs) ≤ c.args.limit) c.loop-element.invariant.decides
     (left_end {u = c.next.new.self} xs k c.loop-element.invariant.left c.in-None.ensures.steps) in
     (λ _. all, λ _. refl)
 
@@ -59,10 +63,10 @@ members_nest_within-returns-then-not-nests_within g t c =
     let xs = pairs_of (g.F.Object.HasTree.tree c.args.object.now) in
     let k = length c.loop-member.yielded in
     let r = left_item {j = c.next.new.self} xs k c.loop-member.invariant.left c.in-Some.ensures.steps in (
-      λ h. absurd cc,
-      λ q. absurd (stops (λ p. nest p.1 ≤ c.args.limit) xs k _ c.loop-member.invariant.decides _ r.0.back
-          (λ p. let y = c.nests_within.ensures.1 (subst (λ u. nest u ≤ c.args.limit) (sym c.value.ensures) p) in let n = c.if-not-nests_within.true in
-          absurd cc) q),
+      λ h. absurd (false≢true h),
+      λ q. absurd {A = false ≡ true} (stops (λ p. nest p.1 ≤ c.args.limit) xs k (nest_members
+          (members_from xs) ≤ c.args.limit) c.loop-member.invariant.decides (g.F.NodeFamily.pair c.in-Some.member) r.0.back
+          (λ p. iff_false c.nests_within.ensures c.if-not-nests_within.true (subst (λ u. nest u ≤ c.args.limit) (sym c.value.ensures) p)) q),
     )
 
 pub members_nest_within-loop-member-preserved : goal.members_nest_within-loop-member-preserved
@@ -75,15 +79,16 @@ members_nest_within-loop-member-preserved g t c =
       ends = (c.in-Some.ensures.goes.on c.loop-member.invariant.ends).1;
       left = simp length-append r.1;
       decides =
-          simp length-append (goes_on (λ p. nest p.1 ≤ c.args.limit) xs k _ c.loop-member.invariant.decides _ r.0.back
-          (subst (λ u. nest u ≤ c.args.limit) c.value.ensures (c.nests_within.ensures.0 (let n = c.if-not-nests_within.false in cc))));
+          simp length-append (goes_on (λ p. nest p.1 ≤ c.args.limit) xs k (nest_members (members_from xs) ≤ c.args.limit)
+          c.loop-member.invariant.decides (g.F.NodeFamily.pair c.in-Some.member) r.0.back
+          (subst (λ u. nest u ≤ c.args.limit) c.value.ensures (c.nests_within.ensures.0 c.if-not-nests_within.false)));
     }
 
 pub members_nest_within-returns : goal.members_nest_within-returns
 members_nest_within-returns g t c =
     let xs = pairs_of (g.F.Object.HasTree.tree c.args.object.now) in
     let k = length c.loop-member.yielded in
-    let all = ends (λ p. nest p.1 ≤ c.args.limit) xs k _ c.loop-member.invariant.decides
+    let all = ends (λ p. nest p.1 ≤ c.args.limit) xs k (nest_members (members_from xs) ≤ c.args.limit) c.loop-member.invariant.decides
     (left_end {u = c.next.new.self} xs k c.loop-member.invariant.left c.in-None.ensures.steps) in
     (λ _. all, λ _. refl)
 
@@ -92,17 +97,18 @@ nests_within-returns-then-limit-gt0 g t c =
     let v = g.F.Node.HasTree.tree c.args.node.now in
     let a = g.F.Array.HasTree.tree c.in-Some.array in
     let whole = array_nests a v c.in-Some.ensures in
-    let some = c.if-limit-gt0.true in (
-      λ h. let le = c.elements_nest_within.ensures.0 h in omega (arith, whole, some, le),
-      λ h. c.elements_nest_within.ensures.1 (omega (arith, whole, some, h)),
-    )
+    let less = one_deeper _ _ c.args.limit whole c.if-limit-gt0.true in
+    (λ h. less.0 (c.elements_nest_within.ensures.0 h), λ h. c.elements_nest_within.ensures.1 (less.1 h))
 
 pub nests_within-returns-then-limit-gt0-2 : goal.nests_within-returns-then-limit-gt0-2
 nests_within-returns-then-limit-gt0-2 g t c =
     let v = g.F.Node.HasTree.tree c.args.node.now in
     let o = g.F.Object.HasTree.tree c.in-Some-as_object.object in
     let whole = object_nests o v c.in-Some-as_object.ensures in
-    let some = c.if-limit-gt0-2.true in (
-      λ h. let le = c.members_nest_within.ensures.0 h in omega (arith, whole, some, le),
-      λ h. c.members_nest_within.ensures.1 (omega (arith, whole, some, h)),
-    )
+    let less = one_deeper _ _ c.args.limit whole c.if-limit-gt0-2.true in
+    (λ h. less.0 (c.members_nest_within.ensures.0 h), λ h. c.members_nest_within.ensures.1 (less.1 h))
+
+-- 1
+-- 2
+-- 1
+-- 2

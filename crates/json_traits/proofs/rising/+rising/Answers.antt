@@ -1,7 +1,8 @@
-use Rattle.std.proofs.Common.{ap, arith, length, length-append, subst}
+use Rattle.std.proofs.Common.{ap, length, length-append, subst}
 use Rattle.json_model.specs.Nest.{nest}
 use Rattle.json_model.specs.Parts.{elements_of, pairs_of}
 use Rattle.json_model.specs.Rising.{KeysRise}
+use Rattle.json_traits.proofs.MeasureLaws.{inside_below, same_inside_below, whole_below}
 use Rattle.json_traits.proofs.GivesLaws.{left_item, left_end}
 use Rattle.json_traits.proofs.ShapeLaws.{array_nests, object_nests, element_nests, pair_nests}
 use Rattle.json_traits.proofs.RisingLaws.{scalar_rises, array_rises, object_rises, next_element, no_element, next_member, no_member}
@@ -20,8 +21,8 @@ keys_rise_in_elements-keys_rise_in_node-requires g t c =
     let ts = elements_of (g.F.Array.HasTree.tree c.args.array.now) in
     let k = length c.loop-element.yielded in
     let r = left_item {j = c.next.new.self} ts k c.loop-element.invariant.left c.in-Some.ensures.steps in
-    let inside = element_nests ts k _ r.0.here in
-    λ κs h. (omega (arith, inside, c.decreases), h)
+    let inside = element_nests ts k (g.F.Node.HasTree.tree c.in-Some.element) r.0.here in
+    λ κs h. (inside_below _ _ _ inside c.decreases, h)
 
 pub keys_rise_in_elements-loop-element-preserved : goal.keys_rise_in_elements-loop-element-preserved
 keys_rise_in_elements-loop-element-preserved g t c =
@@ -32,7 +33,8 @@ keys_rise_in_elements-loop-element-preserved g t c =
       can = c.in-Some.ensures.goes.keeps;
       ends = (c.in-Some.ensures.goes.on c.loop-element.invariant.ends).1;
       left = simp length-append r.1;
-      rise_on = simp length-append (next_element ts k c.loop-element.invariant.rise_on _ r.0.back c.keys_rise_in_node.ensures);
+      rise_on = simp length-append (next_element ts k c.loop-element.invariant.rise_on (g.F.Node.HasTree.tree c.in-Some.element) r.0.back
+          c.keys_rise_in_node.ensures);
     }
 
 pub keys_rise_in_elements-returns : goal.keys_rise_in_elements-returns
@@ -54,9 +56,9 @@ keys_rise_in_members-keys_rise_in_node-requires g t c =
     let ps = pairs_of (g.F.Object.HasTree.tree c.args.object.now) in
     let k = length c.loop-member.yielded in
     let r = left_item {j = c.next.new.self} ps k c.loop-member.invariant.left c.in-Some.ensures.steps in
-    let inside = pair_nests ps k _ r.0.here in
+    let inside = pair_nests ps k (g.F.NodeFamily.pair c.in-Some.member) r.0.here in
     let is = ap nest c.value.ensures in
-    λ κs h. (omega (arith, inside, is, c.decreases), h)
+    λ κs h. (same_inside_below _ _ _ _ inside is c.decreases, h)
 
 pub keys_rise_in_members-loop-member-preserved : goal.keys_rise_in_members-loop-member-preserved
 keys_rise_in_members-loop-member-preserved g t c =
@@ -68,7 +70,7 @@ keys_rise_in_members-loop-member-preserved g t c =
       ends = (c.in-Some.ensures.goes.on c.loop-member.invariant.ends).1;
       left = simp length-append r.1;
       rise_on =
-          simp length-append (next_member ps k c.loop-member.invariant.rise_on _ r.0.back
+          simp length-append (next_member ps k c.loop-member.invariant.rise_on (g.F.NodeFamily.pair c.in-Some.member) r.0.back
           (subst KeysRise c.value.ensures c.keys_rise_in_node.ensures));
     }
 
@@ -82,13 +84,13 @@ keys_rise_in_members-returns g t c =
 pub keys_rise_in_node-keys_rise_in_elements-requires : goal.keys_rise_in_node-keys_rise_in_elements-requires
 keys_rise_in_node-keys_rise_in_elements-requires g t c =
     let whole = array_nests (g.F.Array.HasTree.tree c.in-Some.array) (g.F.Node.HasTree.tree c.args.node.now) c.in-Some.ensures in
-    λ κs h. (omega (arith, whole, c.decreases), h)
+    λ κs h. (whole_below _ _ _ whole c.decreases, h)
 
 pub keys_rise_in_node-keys_rise_in_members-requires : goal.keys_rise_in_node-keys_rise_in_members-requires
 keys_rise_in_node-keys_rise_in_members-requires g t c =
     let whole = object_nests (g.F.Object.HasTree.tree c.in-Some-as_object.object) (g.F.Node.HasTree.tree c.args.node.now) c.in-Some-as_object.ensures
     in
-    λ κs h. (omega (arith, whole, c.decreases), h)
+    λ κs h. (whole_below _ _ _ whole c.decreases, h)
 
 pub keys_rise_in_node-returns-in-Some : goal.keys_rise_in_node-returns-in-Some
 keys_rise_in_node-returns-in-Some g t c = array_rises _ _ c.in-Some.ensures c.keys_rise_in_elements.ensures

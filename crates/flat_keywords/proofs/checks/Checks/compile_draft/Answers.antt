@@ -32,6 +32,13 @@ take_member-requires g c κs =
           (name_read _ (reading_of c.args.draft t) c.in-Some-2.name.now w c.loop-name.invariant.reads e),
     )
 
+pub overflow_add-member : goal.overflow_add-member
+overflow_add-member g c =
+    let t = g.N.HasTree.tree c.args.root.now in
+    let k = length c.loop-name.yielded in
+    let r = left_item {j = c.next.new.self} (pairs_of t) k c.loop-name.invariant.left c.in-Some-2.ensures.steps in
+    omega (arith, r.0.within, c.loop-name.invariant.place, c.loop-name.invariant.counted)
+
 pub returns-in-Err-clause-right : goal.returns-in-Err-clause-right
 returns-in-Err-clause-right g c =
     let t = g.N.HasTree.tree c.args.root.now in

@@ -33,7 +33,6 @@ use std::alloc::Global;
 
 /// A keyword object that is compiled once and checks many documents, whatever holds them: what it asks, with each keyword's
 /// value in a type of its own.
-#[derive(Drop)]
 pub struct Checks {
     types: Option<JsonTypeSet>,
     written_types: Option<JsonTypeSet>,
@@ -46,6 +45,24 @@ pub struct Checks {
     pattern: Option<LiteralPattern>,
     unique: bool,
     required: Option<Vec<String>>,
+}
+
+impl Drop for Checks {
+    fn drop(self) {
+        let Checks {
+            types: _,
+            written_types: _,
+            listed: _,
+            constant: _,
+            bounds: _,
+            code_points: _,
+            elements: _,
+            members: _,
+            pattern: _,
+            unique: _,
+            required: _,
+        } = self;
+    }
 }
 
 impl Checks {

@@ -33,6 +33,7 @@ use std::alloc::Global;
 
 /// A keyword object that is compiled once and checks many documents, whatever holds them: what it asks, with each keyword's
 /// value in a type of its own.
+#[derive(Drop)]
 pub struct Checks {
     types: Option<JsonTypeSet>,
     written_types: Option<JsonTypeSet>,
@@ -45,24 +46,6 @@ pub struct Checks {
     pattern: Option<LiteralPattern>,
     unique: bool,
     required: Option<Vec<String>>,
-}
-
-impl Drop for Checks {
-    fn drop(self) {
-        let Checks {
-            types: _,
-            written_types: _,
-            listed: _,
-            constant: _,
-            bounds: _,
-            code_points: _,
-            elements: _,
-            members: _,
-            pattern: _,
-            unique: _,
-            required: _,
-        } = self;
-    }
 }
 
 impl Checks {
@@ -220,11 +203,11 @@ impl Checks {
             return Err(KeywordError::NotAnObject);
         };
         let reading = Reading::of::<N>(draft, &object);
-        // It has no more members than a `usize` can count.
-        let _count = object.len();
+        let count = object.len();
         let mut checks = Checks::empty();
         let mut member = 0;
         for (name, value) in object.members() {
+            prove!(member < count);
             match checks.take_member(alloc, reading, name, &value, member) {
                 Ok(()) => member += 1,
                 Err(error) => return Err(error),

@@ -3,7 +3,7 @@ use Rattle.json_model.proofs.KindLaws.{if_object_is, object_some}
 use Rattle.json_model.specs.Parts.{pairs_of}
 use Rattle.json_traits.proofs.GivesLaws.{left_item, left_end}
 use Rattle.flat_keywords.specs.Names.{reading_of}
-use Rattle.flat_keywords.proofs.Compiling.{Pair, starts, free_now, goes_on, stops, stops_at_copied, stops_with_memory, ends, fault_read, name_read, took_read}
+use Rattle.flat_keywords.proofs.Compiling.{starts, free_now, goes_on, stops, stops_at_copied, stops_with_memory, ends, fault_read, name_read, took_read}
 use Rattle.flat_keywords.proofs.checks.Checks.compile_draft.Goals as goal
 
 pub loop-name-init : goal.loop-name-init
@@ -32,26 +32,35 @@ take_member-requires g c κs =
           (name_read _ (reading_of c.args.draft t) c.in-Some-2.name.now w c.loop-name.invariant.reads e),
     )
 
-pub overflow_add-member : goal.overflow_add-member
-overflow_add-member g c =
+pub returns-in-Err-clause-right : goal.returns-in-Err-clause-right
+returns-in-Err-clause-right g c =
     let t = g.N.HasTree.tree c.args.root.now in
     let k = length c.loop-name.yielded in
     let r = left_item {j = c.next.new.self} (pairs_of t) k c.loop-name.invariant.left c.in-Some-2.ensures.steps in
-    omega (arith, r.0.within, c.loop-name.invariant.place, c.loop-name.invariant.counted)
+    stops c.args.draft t c.loop-name.checks k (c.in-Some-2.name.now, g.N.HasTree.tree c.in-Some-2.value) r.0 c.loop-name.invariant.walked
+    c.loop-name.member c.in-Err.error c.loop-name.invariant.place
+    (fault_read _ (reading_of c.args.draft t) c.loop-name.member (c.in-Some-2.name.now, g.N.HasTree.tree c.in-Some-2.value)
+    c.in-Err.error c.loop-name.invariant.reads c.in-Err.ensures.err)
 
-pub returns-in-Err : goal.returns-in-Err
-returns-in-Err g c =
+pub returns-in-Err-clause-memory : goal.returns-in-Err-clause-memory
+returns-in-Err-clause-memory g c =
     let t = g.N.HasTree.tree c.args.root.now in
     let k = length c.loop-name.yielded in
     let r = left_item {j = c.next.new.self} (pairs_of t) k c.loop-name.invariant.left c.in-Some-2.ensures.steps in
-    let p : Pair = (c.in-Some-2.name.now, g.N.HasTree.tree c.in-Some-2.value) in
-    let fault = fault_read _ (reading_of c.args.draft t) c.loop-name.member p c.in-Err.error c.loop-name.invariant.reads c.in-Err.ensures.err in
-    record {
-      right = stops c.args.draft t c.loop-name.checks k p r.0 c.loop-name.invariant.walked c.loop-name.member c.in-Err.error
-          c.loop-name.invariant.place fault;
-      memory = stops_at_copied c.args.draft t c.loop-name.checks k p r.0 c.loop-name.invariant.walked c.loop-name.member c.in-Err.error fault;
-      free = stops_with_memory c.args.draft t c.loop-name.checks k p r.0 c.loop-name.invariant.walked c.loop-name.member c.in-Err.error fault;
-    }
+    stops_at_copied c.args.draft t c.loop-name.checks k (c.in-Some-2.name.now, g.N.HasTree.tree c.in-Some-2.value) r.0
+    c.loop-name.invariant.walked c.loop-name.member c.in-Err.error
+    (fault_read _ (reading_of c.args.draft t) c.loop-name.member (c.in-Some-2.name.now, g.N.HasTree.tree c.in-Some-2.value)
+    c.in-Err.error c.loop-name.invariant.reads c.in-Err.ensures.err)
+
+pub returns-in-Err-clause-free : goal.returns-in-Err-clause-free
+returns-in-Err-clause-free g c =
+    let t = g.N.HasTree.tree c.args.root.now in
+    let k = length c.loop-name.yielded in
+    let r = left_item {j = c.next.new.self} (pairs_of t) k c.loop-name.invariant.left c.in-Some-2.ensures.steps in
+    stops_with_memory c.args.draft t c.loop-name.checks k (c.in-Some-2.name.now, g.N.HasTree.tree c.in-Some-2.value) r.0
+    c.loop-name.invariant.walked c.loop-name.member c.in-Err.error
+    (fault_read _ (reading_of c.args.draft t) c.loop-name.member (c.in-Some-2.name.now, g.N.HasTree.tree c.in-Some-2.value)
+    c.in-Err.error c.loop-name.invariant.reads c.in-Err.ensures.err)
 
 pub loop-name-preserved : goal.loop-name-preserved
 loop-name-preserved g c =
@@ -71,13 +80,9 @@ loop-name-preserved g c =
           c.take_member.new.self c.loop-name.invariant.reads c.in-Ok.ensures.ok));
     }
 
-pub returns : goal.returns
-returns g c =
+pub returns-clause-right : goal.returns-clause-right
+returns-clause-right g c =
     let t = g.N.HasTree.tree c.args.root.now in
     let k = length c.loop-name.yielded in
-    record {
-      right = inr (ends c.args.draft t c.loop-name.checks k (left_end {u = c.next.new.self} (pairs_of t) k c.loop-name.invariant.left
-          c.in-None.ensures.steps) c.loop-name.invariant.walked);
-      memory = λ is. absurd cc;
-      free = λ _ _ is. cc;
-    }
+    inr (ends c.args.draft t c.loop-name.checks k (left_end {u = c.next.new.self} (pairs_of t) k c.loop-name.invariant.left
+    c.in-None.ensures.steps) c.loop-name.invariant.walked)

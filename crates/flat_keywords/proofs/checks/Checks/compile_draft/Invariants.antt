@@ -14,7 +14,7 @@ invariant-loop-name g l =
       ends : (goal.iterator-loop-name g).is_finite l.name-iterator;
       left : Gives (goal.iterator-loop-name g).next_gives (λ p. (p.0.now, g.N.HasTree.tree p.1)) l.name-iterator (drop k (pairs_of t));
       place : l.member ≡ k;
-      counted : l._count ≡ length (pairs_of t);
+      counted : l.count ≡ length (pairs_of t);
       reads : l.reading ≡ reading_of l.fn.draft t;
       walked : Walked l.fn.draft t l.checks k;
     }

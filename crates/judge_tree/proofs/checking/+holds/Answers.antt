@@ -67,11 +67,14 @@ elements_hold-returns-in-Ok-false g t c =
     let d = g.F.Node.HasTree.tree c.args.node.now in
     let k = length c.loop-element.yielded in
     let r = left_item {j = c.next.new.self} (elements_of d) k c.loop-element.invariant.left c.in-Some-element.ensures.steps in
-    record { ok = λ _. refl; right = (
-      λ h. absurd cc,
-      λ q. absurd (stops (Means (asked c.args.formula.now)) (elements_of d) k _ c.loop-element.invariant.decides _ r.0.back
-          (λ p. let e : true ≡ false = sym (c.in-Ok-false.ensures.right.1 p) ∙ c.in-Ok-false.field-0-test in cc) q),
-    ) }
+    record {
+      ok = λ _. refl;
+      right = (
+        λ h. absurd cc,
+        λ q. absurd (stops (Means (asked c.args.formula.now)) (elements_of d) k _ c.loop-element.invariant.decides _ r.0.back
+            (λ p. let e : true ≡ false = sym (c.in-Ok-false.ensures.right.1 p) ∙ c.in-Ok-false.field-0-test in cc) q),
+      );
+    }
 
 pub elements_hold-returns : goal.elements_hold-returns
 elements_hold-returns g t c =
@@ -100,12 +103,15 @@ others_hold-returns-in-Ok-false g t c =
     let d = g.F.Node.HasTree.tree c.args.node.now in
     let k = length c.loop-member.yielded in
     let r = left_item {j = c.next.new.self} (pairs_of d) k c.loop-member.invariant.left c.in-Some-member.ensures.steps in
-    record { ok = λ _. refl; right = (
-      λ h. absurd cc,
-      λ q. absurd (stops (λ p. IsOneOf (map string_bytes c.args.names.now) p.0 ⊎ Means (asked c.args.formula.now) p.1)
-          (pairs_of d) k _ c.loop-member.invariant.decides _ r.0.back (λ p. let e : true ≡ false = sym
-          (c.in-Ok-false.ensures.right.1 p) ∙ c.in-Ok-false.field-0-test in cc) q),
-    ) }
+    record {
+      ok = λ _. refl;
+      right = (
+        λ h. absurd cc,
+        λ q. absurd (stops (λ p. IsOneOf (map string_bytes c.args.names.now) p.0 ⊎ Means (asked c.args.formula.now) p.1)
+            (pairs_of d) k _ c.loop-member.invariant.decides _ r.0.back (λ p. let e : true ≡ false = sym
+            (c.in-Ok-false.ensures.right.1 p) ∙ c.in-Ok-false.field-0-test in cc) q),
+      );
+    }
 
 pub others_hold-returns : goal.others_hold-returns
 others_hold-returns g t c =

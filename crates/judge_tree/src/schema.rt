@@ -1,7 +1,7 @@
 //! Schemas, compiled once and checked many times.
 
-ghost use Rattle.std.specs.Prelude.{◌↔◌, MatchResult, IfOk, IsOk, IsTrue};
-ghost use Rattle.judge_tree.specs.Compiled.{IsCompiled, IsRefused, NeedsNoMemory, Passes};
+ghost use Rattle.std.specs.Prelude.{◌≡◌, ◌↔◌, Err, MatchResult, IfOk, IsOk, IsTrue};
+ghost use Rattle.judge_tree.specs.Compiled.{IsCompiled, IsRefused, IsShallow, NeedsNoMemory, Passes};
 
 use crate::checking::holds;
 use crate::compiling::compile_schema;
@@ -19,10 +19,11 @@ pub struct Schema {
 
 impl Schema {
     /// Compiles a schema. Its depth is asked for first, and then its members are walked over once, in key order. The error is that it
-    /// nests too deep, or else the first fault on that walk. Memory is taken for what is kept. A `pattern` of 2^30 bytes or more that is
-    /// not literal gets want of memory too.
+    /// nests too deep, or else the first fault on that walk. Memory is taken for what is kept: a schema that nests too deep never gets want
+    /// of memory. A `pattern` of 2^30 bytes or more that is not literal gets want of memory too.
     pub fn compile<'a, N: Node<'a>>(alloc: Global, root: &N) -> Result<Schema, SchemaError>
-        ensures { MatchResult result (IsCompiled (N.tree root.now)) (IsRefused (N.tree root.now)) }
+        ensures right { MatchResult result (IsCompiled (N.tree root.now)) (IsRefused (N.tree root.now)) }
+        ensures deep { (IsShallow (N.tree root.now) → ⊥) → result ≡ Err SchemaError.SchemaTooDeep }
     {
         if !nests_within::<FamilyOf<'a, N>>(root, 128) {
             return Err(SchemaError::SchemaTooDeep);

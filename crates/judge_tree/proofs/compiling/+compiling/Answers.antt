@@ -252,3 +252,16 @@ compile_schema-returns-in-Some-as_object g t c =
     (IsBuilt (MeetsEach (property_names (pairs_of o)) ms) (NoMemberAsks ms) (WalksEach ms c.args.number 0 n))
     (Stops (WalksEach ms c.args.number 0 n)))
     c.in-Some.ensures.1 c.compile_members.ensures)
+
+pub compile_members-loop-member-init : goal.compile_members-loop-member-init
+compile_members-loop-member-init g t c =
+    let gives = c.into_iter-member-iterator.ensures.into_iter_gives in
+    record {
+      can = rw gives c.members-member-items.ensures.can;
+      ends = rw gives c.members-member-items.ensures.ends;
+      left = rw gives c.members-member-items.ensures.gives;
+      place = refl;
+      walk = λ o h. h;
+      asks = λ d. rw c.new-formulas.ensures.items (λ h. h.1, λ h. (refl, h));
+      memory = λ h. rw c.new-formulas.ensures.items (tt, h);
+    }

@@ -8,15 +8,15 @@ returns-in-Err c = slice_refused c.args.schema.now c.args.document.now c.in-Err.
 pub returns-in-Err-compile : goal.returns-in-Err-compile
 returns-in-Err-compile c =
     schema_refused c.args.schema.now c.args.document.now c.in-Ok.root (node_tree c.in-Ok.root) c.in-Ok.ensures.read
-    c.in-Err-compile.error c.of_schema.result c.of_schema.ensures c.in-Err-compile.ensures
+    c.in-Err-compile.error c.of_schema.result c.of_schema.ensures c.in-Err-compile.ensures.right
 
 pub returns-in-Err-root : goal.returns-in-Err-root
 returns-in-Err-root c =
     document_refused c.args.schema.now c.args.document.now c.in-Ok.root (node_tree c.in-Ok.root) c.in-Ok.ensures.read
-    c.in-Ok-compile.compiled c.in-Ok-compile.ensures c.in-Err-root.error c.of_document.result c.of_document.ensures c.in-Err-root.ensures.read
+    c.in-Ok-compile.compiled c.in-Ok-compile.ensures.right c.in-Err-root.error c.of_document.result c.of_document.ensures c.in-Err-root.ensures.read
 
 pub returns-in-Ok-check : goal.returns-in-Ok-check
 returns-in-Ok-check c =
     verdict c.args.schema.now c.args.document.now c.in-Ok.root (node_tree c.in-Ok.root) c.in-Ok.ensures.read
-    c.in-Ok-compile.compiled c.in-Ok-compile.ensures c.in-Ok-root.node (node_tree c.in-Ok-root.node) c.in-Ok-check.valid
+    c.in-Ok-compile.compiled c.in-Ok-compile.ensures.right c.in-Ok-root.node (node_tree c.in-Ok-root.node) c.in-Ok-check.valid
     c.in-Ok-root.ensures.read c.in-Ok-check.ensures.right

@@ -48,18 +48,19 @@ pub fn answer_lines<C: Command, S: Source, K: Sink>(
         → (result ≡ Status.Done) ⊎ (result ≡ Status.OutOfMemory) }
 {
     let mut buffer = [0u8; 4096];
+    let mut kept = command.start(alloc);
     let mut line = Vec::new(alloc);
     for _turn in 0..MAX_TURNS {
         let Ok(count) = source.read(&mut buffer) else {
             return Status::ReadFault;
         };
         if count == 0 {
-            if let Err(status) = finish(command, alloc, &line, sink) {
+            if let Err(status) = finish(command, alloc, &mut kept, &line, sink) {
                 return status;
             }
             return Status::Done;
         }
-        if let Err(status) = feed(command, alloc, &buffer[..count], &mut line, sink) {
+        if let Err(status) = feed(command, alloc, &mut kept, &buffer[..count], &mut line, sink) {
             return status;
         }
     }

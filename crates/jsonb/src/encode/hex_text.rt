@@ -1,5 +1,5 @@
 //! Bytes as hex text.
-ghost use Rattle.std.specs.Prelude.{◌≡◌, ◌↔◌, ◌⊎◌, ◌%◌, ◌*◌, ◌<◌, ◌≤◌, [], ℕ, List, length, vec_capacity, IsOk, IfOk, OnErr, OnOk};
+ghost use Rattle.std.specs.Prelude.{◌≡◌, ◌↔◌, ◌⊎◌, ◌%◌, ◌*◌, ◌<◌, ◌≤◌, [], ℕ, List, length, vec_capacity, IsOk, IfErr, IfOk, OnErr, OnOk};
 ghost use Rattle.jsonb.specs.HexText.{IsFirstNotHex, IsHexText};
 
 use hex::FromHexError;
@@ -90,13 +90,25 @@ fn decode_over(text: &[u8], bytes: &mut Vec<u8>) -> Result<(), HexError>
     if bytes.resize(text.len() / 2, 0).is_err() {
         return Err(HexError::OutOfMemory);
     }
-    match hex::decode_to_slice(text, bytes.as_mut_slice()) {
+    decode_even(text, bytes.as_mut_slice())
+}
+
+// Reads a text into a slice of half its length.
+fn decode_even(text: &[u8], bytes: &mut [u8]) -> Result<(), HexError>
+    requires { length text.now ≡ 2 * length bytes.old }
+    ensures ok { OnOk result (IsHexText text.now bytes.new) }
+    ensures not_hex { IfErr result (λ error. (place : ℕ) × (error ≡ HexError.NotHex place)
+        × IsFirstNotHex text.now place) }
+    ensures accepts { (hex : List ℕ) → IsHexText text.now hex → IsOk result }
+    ensures refuses { (place : ℕ) → IsFirstNotHex text.now place → result ≡ Err (HexError.NotHex place) }
+{
+    match hex::decode_to_slice(text, bytes) {
         Ok(()) => Ok(()),
         Err(FromHexError::InvalidHexCharacter { c: _, index }) => {
             Err(HexError::NotHex { place: index })
         }
-        Err(
-            FromHexError::OddLength | FromHexError::OutOfMemory | FromHexError::InvalidStringLength,
-        ) => unreachable!(),
+        Err(FromHexError::OddLength) => unreachable!(),
+        Err(FromHexError::InvalidStringLength) => unreachable!(),
+        Err(FromHexError::OutOfMemory) => unreachable!(),
     }
 }

@@ -1,7 +1,8 @@
 -- What compiling gives: checks that a document passes exactly where it is valid, or the fault of a member. This project's
 -- own. What it is to pass checks is said by the clauses that cite these words, and nowhere else.
-use Rattle.std.specs.Prelude.{List, ℕ, ◌≡◌, ◌↔◌, Some}
+use Rattle.std.specs.Prelude.{List, ℕ, ◌≡◌, ◌↔◌, Some, Ok}
 use Rattle.json_model.specs.Tree.{Tree}
+use Rattle.jsonb.specs.Root.{IsRead}
 use Rattle.flat_keywords.specs.Validity.{AsksUnique, HasFaultBy, IsBadBy, IsBadPatternBy, IsCopiedBy, IsFair, IsNotLiteralBy, IsTooDeepBy, IsUnknownBy, IsValidBy, NeverAsksUniqueBy}
 use Rattle.flat_keywords.specs.Verdict.{HoldsAt, VerdictBy}
 use Rattle.flat_keywords.specs.inner.Passes.{NeedsNoMemory, Passes}
@@ -32,6 +33,12 @@ pub record IsCompiledBy (draft : Draft) (t : Tree) (c : Checks) : Type 0 where
 
 abbrev pub HasThisFaultBy : Draft → Tree → KeywordError → Type 0
 HasThisFaultBy draft t e = HasFaultBy draft t (Some e)
+
+-- the slice stands for a keyword object that by a draft has no fault, and the checks c are compiled of it
+pub record IsCompiledOf (draft : Draft) (keywords : List ℕ) (c : Checks) : Type 0 where
+  pub object : Tree
+  pub read : IsRead keywords (Ok object)
+  pub compiled : IsCompiledBy draft object c
 
 -- ---- by 2020-12
 

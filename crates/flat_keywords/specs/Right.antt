@@ -66,6 +66,10 @@ RightBy draft keywords document r = (s : Result Tree JsonbError) × IsRead keywo
 abbrev pub Right : List ℕ → List ℕ → Answer → Type 0
 Right = RightBy drafts.Draft2020
 
+-- the error is the right answer to the keywords, whatever the document
+abbrev pub IsRefusedFor : Draft → List ℕ → JudgeError → Type 0
+IsRefusedFor draft keywords e = (document : List ℕ) → RightBy draft keywords document (Err e)
+
 -- ---- the answer to two trees: the first fault of the keywords, or the verdict
 
 abbrev pub RightOnTreesBy : Draft → Tree → Tree → Result Bool KeywordError → Type 0

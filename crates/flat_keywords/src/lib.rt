@@ -14,6 +14,8 @@
 //! members, `uniqueItems`, `pattern` and `required`, and the eight that ask nothing of a document, as `title`. A `pattern` is taken
 //! where it is literal, as `^x-` and `^(a|b)$`: `literal_patterns` says which those are.
 //!
+//! For many documents under one keyword object there are [`Checks::compile_slice`] and [`Checks::judge_slice`], of which [`judge`] is made.
+//!
 //! [`judge_draft`] and [`Checks::compile_draft`] take keywords of [`Draft`] 4 too, where 1.0 is no integer and `exclusiveMinimum` is
 //! a truth value.
 #![tactic(auto)]
@@ -32,6 +34,7 @@ mod narrow;
 mod patterns;
 mod read;
 mod required;
+mod slices;
 mod values;
 mod verdict;
 

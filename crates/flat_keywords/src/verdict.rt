@@ -11,8 +11,6 @@ ghost use Rattle.flat_keywords.specs.Validity.{ChecksFreely, ChecksFreelyBy, IsL
 use crate::checks::Checks;
 use crate::draft::Draft;
 use crate::errors::JudgeError;
-use json_exact::OutOfMemory;
-use jsonb::Jsonb;
 use std::alloc::Global;
 
 /// Whether the document is valid under the keyword object, both as PostgreSQL `jsonb` bytes, by JSON Schema 2020-12.
@@ -34,7 +32,8 @@ pub fn judge(alloc: Global, keywords: &[u8], document: &[u8]) -> Result<bool, Ju
 
 /// Whether the document is valid under the keyword object by a draft of JSON Schema, as [`judge`] answers by 2020-12.
 ///
-/// For example 1.0 is valid under `{"type":"integer"}` by 2020-12, and is not by draft 4.
+/// For example 1.0 is valid under `{"type":"integer"}` by 2020-12, and is not by draft 4. For many documents under one keyword object
+/// take [`Checks::compile_slice`] once and [`Checks::judge_slice`] for each: this call is those two.
 pub fn judge_draft(
     alloc: Global,
     draft: Draft,
@@ -47,20 +46,8 @@ pub fn judge_draft(
     ensures free { (t u : Tree) → Stands keywords.now t → nest t ≤ 1 → IsLeanBy draft t
         → Stands document.now u → nest u ≤ 1 → ChecksFreelyBy draft t u → result ≡ Err JudgeError.OutOfMemory → ⊥ }
 {
-    let root = match Jsonb::root(alloc, keywords) {
-        Ok(root) => root,
-        Err(error) => return Err(JudgeError::of_keywords(error)),
-    };
-    let checks = match Checks::compile_draft(alloc, draft, &root) {
-        Ok(checks) => checks,
-        Err(error) => return Err(JudgeError::of_keyword(error)),
-    };
-    let node = match Jsonb::root(alloc, document) {
-        Ok(node) => node,
-        Err(error) => return Err(JudgeError::of_document(error)),
-    };
-    match checks.check(alloc, &node) {
-        Ok(valid) => Ok(valid),
-        Err(OutOfMemory) => Err(JudgeError::OutOfMemory),
+    match Checks::compile_slice(alloc, draft, keywords) {
+        Ok(checks) => checks.judge_slice(alloc, document),
+        Err(error) => Err(error),
     }
 }

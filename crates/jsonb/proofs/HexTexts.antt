@@ -1,6 +1,7 @@
 -- Hex texts are what `hex` decodes.
 use Rattle.std.proofs.Common.{◌≡◌, ◌⊎◌, inl, inr, ℕ, zero, suc, ◌+◌, ◌*◌, ◌/◌, ◌%◌, ◌<◌, List, [], ◌∷◌, length, take, slice_index, true, false, is_some, Option, Some, None, Ok, Err, Result, refl, sym, ap, ◌∙◌, subst, arith}
 use Rattle.std.specs.List.{AllPass}
+use Rattle.std.specs.Prelude.{MatchResult}
 use Rattle.std.specs.Str.{IsAscii, IsUtf8}
 use Rattle.std.proofs.lemmas.Bool.{false≢true, cases_eq}
 use Rattle.std.proofs.lemmas.Str.{IsUtf8-from_ascii}
@@ -8,9 +9,9 @@ use Rattle.std.proofs.lemmas.Str.Ascii.{IsAscii-nil, IsAscii-cons}
 use Rattle.std.proofs.lemmas.List.Elements.{All-head, All-tail}
 use Rattle.hex.specs.declared.error.FromHexError.{FromHexError}
 use Rattle.hex.specs.declared.error.FromHexError.TheVariants.{InvalidHexCharacter, InvalidStringLength, OddLength, OutOfMemory}
-use Rattle.hex.specs.Hex.{decode_of, decode_pairs, hex_digit_value, is_hex_digit, pair_value}
+use Rattle.hex.specs.Hex.{decode_of, decode_pairs, decode_sized, hex_digit_value, is_hex_digit, pair_value}
 use Rattle.hex.proofs.Pairs.{cons_byte, decode_pairs-ok_pair}
-use Rattle.hex.proofs.HexLemmas.{decode_of-err, decode_of-even, decode_of-odd, decode_of-ok, decode_of-same}
+use Rattle.hex.proofs.HexLemmas.{decode_of-err, decode_of-even, decode_of-odd, decode_of-ok, decode_of-same, decode_sized-twice}
 use Rattle.jsonb_layout.proofs.Tools.{IsBytes}
 use Rattle.jsonb.specs.HexText.{IsFirstNotHex, IsHexPair, IsHexText}
 
@@ -110,10 +111,52 @@ refused text error e =
           rw there.1 (rw (sym place) (record { even = even_refused text error _ _ e there.1; within = there.2; digits = there.4; here = there.3 }))
     ]
 
+-- want of memory is no error of the text
+never_memory : (text : List ℕ) (error : FromHexError) → decode_of text ≡ Err error → error ≡ OutOfMemory → ⊥
+never_memory text error e is =
+    elim (decode_of-err text error e) [
+      | inl odd ↦ absurd (let both = sym odd.1 ∙ is in cc)
+      | inr there ↦ absurd (let both = sym there.1 ∙ is in cc)
+    ]
+
 -- why a text is not decoded
 pub tells : (text : List ℕ) (error : FromHexError) → (error ≡ OutOfMemory) ⊎ (decode_of text ≡ Err error) → Tells text error
 tells text error (inl memory) = rw memory tt
 tells text error (inr e) = refused text error e
+
+-- ---- decoding into room for the bytes
+
+-- what is answered where the room is r's, and is out afterwards
+abbrev pub Sized : List ℕ → ℕ → List ℕ → Result (Unit {0}) FromHexError → Type 0
+Sized text n out r = MatchResult (decode_sized text n) (λ bytes. (r ≡ Ok tt) × (out ≡ bytes)) (λ e. r ≡ Err e)
+
+of_room : (text out : List ℕ) (n : ℕ) (r : Result (Unit {0}) FromHexError) → length text ≡ 2 * n → Sized text n out r
+    → MatchResult (decode_of text) (λ bytes. (r ≡ Ok tt) × (out ≡ bytes)) (λ e. r ≡ Err e)
+of_room text out n r len h =
+    subst (λ d. MatchResult d (λ bytes. (r ≡ Ok tt) × (out ≡ bytes)) (λ e. r ≡ Err e)) (decode_sized-twice text n len) h
+
+-- what is decoded into room for it is what the text stands for
+pub sized_hex : (text out : List ℕ) (n : ℕ) (r : Result (Unit {0}) FromHexError) → length text ≡ 2 * n → Sized text n out r
+    → r ≡ Ok tt → IsHexText text out
+sized_hex text out n r len h ok = by_result (decode_of text) refl (of_room text out n r len h)
+  where
+    by_result : (d : Result (List ℕ) FromHexError) → decode_of text ≡ d
+        → MatchResult d (λ bytes. (r ≡ Ok tt) × (out ≡ bytes)) (λ e. r ≡ Err e) → IsHexText text out
+    by_result (Ok bytes) e h = subst (λ b. IsHexText text b) (sym h.1) (decoded_hex text bytes e)
+    by_result (Err error) e h = absurd (let both = sym ok ∙ h in cc)
+
+-- why a text is not decoded into room for it
+pub sized_tells : (text out : List ℕ) (n : ℕ) (r : Result (Unit {0}) FromHexError) (error : FromHexError) → length text ≡ 2 * n
+    → Sized text n out r → r ≡ Err error → Tells text error × (error ≡ OutOfMemory → ⊥)
+sized_tells text out n r error len h err = by_result (decode_of text) refl (of_room text out n r len h)
+  where
+    by_result : (d : Result (List ℕ) FromHexError) → decode_of text ≡ d
+        → MatchResult d (λ bytes. (r ≡ Ok tt) × (out ≡ bytes)) (λ e. r ≡ Err e) → Tells text error × (error ≡ OutOfMemory → ⊥)
+    by_result (Ok bytes) e h = absurd (let both = sym err ∙ h.0 in cc)
+    by_result (Err other) e h =
+        let same : other ≡ error = (let both = sym h ∙ err in cc) in
+        let told = refused text other e in
+        (subst (Tells text) same told, λ memory. never_memory text other e (same ∙ memory))
 
 -- a text of digits has no first byte that is no digit
 pub all_digits : (text : List ℕ) (place : ℕ) → AllPass is_hex_digit text → place < length text → is_hex_digit (slice_index text place) ≡ false → ⊥

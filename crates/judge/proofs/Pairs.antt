@@ -8,6 +8,7 @@ use Rattle.flat_keywords.specs.declared.draft.Draft.{Draft}
 use Rattle.flat_keywords.specs.declared.errors.JudgeError.{JudgeError}
 use Rattle.flat_keywords.specs.declared.errors.JudgeError.TheVariants.{OutOfMemory}
 use Rattle.judge.specs.Answers.{IsPair, LineAnswerBy, name_of}
+use Rattle.judge.specs.inner.KeptKeywords.{IsVerdictOnTexts}
 use Rattle.line_program.specs.Answers.{AnswersOne}
 use Rattle.line_program.specs.Lines.{Lacks}
 use Rattle.flat_keywords.specs.Right.{RightBy}
@@ -35,7 +36,20 @@ parts_once line first second k d e lacks pair =
 pub no_parts : (line k d : List ℕ) → Lacks 32 line → IsPair line k d → ⊥
 no_parts line k d lacks pair = Lacks-cut 32 pair.first pair.second (subst (λ t. Lacks 32 t) pair.whole lacks)
 
+-- a line whose parts are not both hex texts is no pair
+pub no_hex_parts : (line first second : List ℕ) → line ≡ first ++ 32 ∷ second → Lacks 32 first
+    → ((k d : List ℕ) → IsHexText first k → IsHexText second d → ⊥) → (k d : List ℕ) → IsPair line k d → ⊥
+no_hex_parts line first second e lacks none k d pair =
+    let parts = parts_once line first second k d e lacks pair in
+    none k d parts.0 parts.1
+
 -- ---- the answer to a pair
+
+-- a line of two hex texts is a pair
+pub verdict_pair : (draft : Draft) (line first second : List ℕ) (verdict : Result Bool JudgeError) → line ≡ first ++ 32 ∷ second
+    → (v : IsVerdictOnTexts draft first second verdict) → IsPair line v.verdict_on.keywords v.document
+verdict_pair _ line first second verdict e v =
+    record { first = first; second = second; whole = e; keywords_text = v.verdict_on.hex; document_text = v.hex }
 
 -- what is printed of the right answer to a pair answers its line
 pub printed_answers : (draft : Draft) {E : Type 0} (line k d : List ℕ) (verdict : Result Bool JudgeError) (o : Option (Bor (List ℕ)))

@@ -1,2 +1,3 @@
--- What a user need not believe: what the code reads of the words of a command line. The files beside this folder say what a run is.
+-- What a user need not believe: what the code reads of the words of a command line, and what it keeps of keywords. The files beside this folder say what a run is.
+pub mod KeptKeywords
 pub mod Requests

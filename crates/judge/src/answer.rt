@@ -1,10 +1,10 @@
 //! The answer to one line.
-ghost use Rattle.std.specs.Prelude.{◌≡◌, ◌∷◌, ◌++◌, [], ℕ, List, IfOk, IsNone, IsSomeAnd, MatchOption};
-ghost use Rattle.jsonb.specs.HexText.{IsHexText};
-ghost use Rattle.judge.specs.Answers.{IsPair, LineAnswerBy, name_of};
+ghost use Rattle.std.specs.Prelude.{◌≡◌, ◌∷◌, ◌++◌, [], IsNone, IsSomeAnd, MatchOption};
+ghost use Rattle.judge.specs.Answers.{LineAnswerBy, name_of};
+ghost use Rattle.judge.specs.inner.KeptKeywords.{IsKept};
 
-use flat_keywords::{Draft, Fault, JudgeError, judge_draft};
-use jsonb::encode::{HexError, decode_hex};
+use crate::kept::KeptPair;
+use flat_keywords::{Draft, Fault, JudgeError};
 use line_program::{Command, cut_at};
 use std::alloc::{AllocError, Global};
 
@@ -18,46 +18,27 @@ impl Command for CheckCommand {
 
     type Answer = &'static [u8];
 
-    fn answer(&self, alloc: Global, line: &[u8]) -> Result<&'static [u8], AllocError> {
-        let Some((keywords, document)) = read_pair(alloc, line)? else {
+    type Kept = KeptPair;
+
+    ghost serves = { λ c kept. IsKept c.draft kept.last };
+
+    fn start(&self, alloc: Global) -> KeptPair {
+        KeptPair::none(alloc)
+    }
+
+    fn answer(
+        &self,
+        alloc: Global,
+        kept: &mut KeptPair,
+        line: &[u8],
+    ) -> Result<&'static [u8], AllocError> {
+        let Some((first, second)) = cut_at(b' ', line) else {
             return Ok(b"bad line\n");
         };
-        printed(judge_draft(alloc, self.draft, &keywords, &document)).ok_or(AllocError)
-    }
-}
-
-/// The bytes of the two hex texts of a line, with one space between; None where the line is something else. An error is want of
-/// memory.
-pub fn read_pair(alloc: Global, line: &[u8]) -> Result<Option<(Vec<u8>, Vec<u8>)>, AllocError>
-    ensures { IfOk result (λ pair. MatchOption pair
-        ((keywords document : List ℕ) → IsPair line.now keywords document → ⊥)
-        (λ both. IsPair line.now both.0.items both.1.items)) }
-{
-    let Some((first, second)) = cut_at(b' ', line) else {
-        return Ok(None);
-    };
-    let Some(keywords) = read_hex(alloc, first)? else {
-        return Ok(None);
-    };
-    let Some(document) = read_hex(alloc, second)? else {
-        return Ok(None);
-    };
-    Ok(Some((keywords, document)))
-}
-
-// The bytes of a hex text.
-fn read_hex(alloc: Global, text: &[u8]) -> Result<Option<Vec<u8>>, AllocError>
-    ensures { IfOk result (λ read. MatchOption read
-        ((bytes : List ℕ) → IsHexText text.now bytes → ⊥)
-        (λ bytes. IsHexText text.now bytes.items)) }
-{
-    let Ok(text) = str::from_utf8(text) else {
-        return Ok(None);
-    };
-    match decode_hex(alloc, text) {
-        Ok(bytes) => Ok(Some(bytes)),
-        Err(HexError::OutOfMemory) => Err(AllocError),
-        Err(HexError::OddLength | HexError::NotHex { .. }) => Ok(None),
+        let Some(verdict) = kept.judge(alloc, self.draft, first, second)? else {
+            return Ok(b"bad line\n");
+        };
+        printed(verdict).ok_or(AllocError)
     }
 }
 

@@ -10,12 +10,27 @@ use std::alloc::{AllocError, Global};
 // The command `encode`, which gives the bytes of the JSON text of a line, in hex.
 pub(crate) struct EncodeCommand;
 
+// What `encode` keeps from line to line: nothing.
+#[derive(Drop)]
+pub(crate) struct NothingKept;
+
 impl Command for EncodeCommand {
     ghost is_answer = { λ _. CodeAnswer };
 
     type Answer = String;
 
-    fn answer(&self, alloc: Global, line: &[u8]) -> Result<String, AllocError> {
+    type Kept = NothingKept;
+
+    fn start(&self, _alloc: Global) -> NothingKept {
+        NothingKept
+    }
+
+    fn answer(
+        &self,
+        alloc: Global,
+        _kept: &mut NothingKept,
+        line: &[u8],
+    ) -> Result<String, AllocError> {
         let mut text = code_of(alloc, line)?;
         text.push('\n')?;
         Ok(text)

@@ -25,15 +25,17 @@
 
 mod answer;
 mod code;
+mod hex_pair;
+mod kept;
 mod make;
 mod program;
 pub mod run_laws;
 mod words;
 
-pub use answer::read_pair;
 pub use flat_keywords::{
     Checks, Draft, Fault, JudgeError, KeywordError, judge, judge_draft, judge_values, laws,
 };
+pub use hex_pair::{read_pair, read_pair_into};
 pub use line_program::{
     Failed, MemorySink, MemorySource, Sink, SinkError, Source, Status, SteadySink, SteadySource,
 };

@@ -1,8 +1,9 @@
 -- What compiling gives: a schema that a document passes exactly where it is valid, or the first fault. This project's own. What it is
 -- to pass a compiled schema is said by the clauses that cite these words, and nowhere else.
-use Rattle.std.specs.Prelude.{ℕ, ◌≡◌, ◌↔◌, ◌⊎◌, ◌≤◌, Option, Some, None}
+use Rattle.std.specs.Prelude.{ℕ, ◌≡◌, ◌↔◌, ◌⊎◌, ◌≤◌, List, Ok, Option, Some, None}
 use Rattle.json_model.specs.Nest.{nest}
 use Rattle.json_model.specs.Tree.{Tree}
+use Rattle.jsonb.specs.Root.{IsRead}
 use Rattle.judge_tree.specs.Unique.{NeverAsks}
 use Rattle.judge_tree.specs.Verdict.{IsValidUnder}
 use Rattle.judge_tree.specs.Walks.{went, stopped, Walks}
@@ -34,6 +35,12 @@ pub record IsCompiled (t : Tree) (s : Schema) : Type 0 where
   pub valid : IsSchema t
   pub passes : (d : Tree) → Passes s d ↔ IsValidUnder t d
   pub memory : NeverAsks t → NeedsNoMemory s
+
+-- the slice stands for a schema, and s is compiled of it
+pub record IsCompiledOf (schema : List ℕ) (s : Schema) : Type 0 where
+  pub tree : Tree
+  pub read : IsRead schema (Ok tree)
+  pub compiled : IsCompiled tree s
 
 -- the fault of a tree as a schema, or none: that it nests too deep comes first, and then the fault with which the walk ends
 abbrev pub HasFault : Tree → Option SchemaError → Type 0

@@ -59,3 +59,7 @@ RightFrom (Ok s) document r = (f : Option SchemaError) × HasFault s f × RightW
 -- r is the right answer to the two slices
 unfoldable pub Right : List ℕ → List ℕ → Answer → Type 0
 Right schema document r = (s : Result Tree JsonbError) × IsRead schema s × RightFrom s document r
+
+-- the error is the right answer to the schema, whatever the document
+abbrev pub IsRefusedFor : List ℕ → TreeError → Type 0
+IsRefusedFor schema e = (document : List ℕ) → Right schema document (Err e)

@@ -2,7 +2,7 @@
 //!
 //! [`judge_tree`] answers for two slices. For example the schema `{"items":{"type":"integer"}}` is met by `[1, 1.0]`, and not by
 //! `[1.5]`. [`Schema`] is a schema that is compiled once and checks many documents, whatever holds them: [`Schema::compile`] and
-//! [`Schema::check`] take each `json_traits::Node`.
+//! [`Schema::check`] take each `json_traits::Node`, and [`Schema::compile_slice`] and [`Schema::judge_slice`] take slices.
 //!
 //! A schema is `true`, `false` or an object. Six keywords have schemas inside: `properties`, `additionalProperties`, `items`,
 //! `allOf`, `anyOf` and `not`. Every other member is a flat keyword, as `judge` takes it. At most 128
@@ -27,6 +27,7 @@ mod formula;
 mod judged_family;
 pub mod laws;
 mod schema;
+mod slices;
 mod tree_error;
 mod verdict;
 

@@ -2,7 +2,7 @@
 ghost use Rattle.std.specs.Prelude.{◌≡◌, ◌∷◌, ◌++◌, [], IfOk, IsNone, IsSomeAnd, MatchOption};
 ghost use Rattle.judge_tree_main.specs.Answers.{LineAnswer, name_of};
 
-use judge::{Fault, read_pair};
+use judge::{Fault, read_pair_into};
 use judge_tree::{TreeError, judge_tree};
 use line_program::Command;
 use std::alloc::{AllocError, Global};
@@ -10,16 +10,37 @@ use std::alloc::{AllocError, Global};
 // Judges the document of a line by its schema.
 pub(crate) struct CheckCommand;
 
+// Buffers for the bytes of a pair, which are kept from line to line.
+#[derive(Drop)]
+pub(crate) struct PairBuffers {
+    schema: Vec<u8>,
+    document: Vec<u8>,
+}
+
 impl Command for CheckCommand {
     ghost is_answer = { λ _. LineAnswer };
 
     type Answer = &'static [u8];
 
-    fn answer(&self, alloc: Global, line: &[u8]) -> Result<&'static [u8], AllocError> {
-        let Some((schema, document)) = read_pair(alloc, line)? else {
+    type Kept = PairBuffers;
+
+    fn start(&self, alloc: Global) -> PairBuffers {
+        PairBuffers {
+            schema: Vec::new(alloc),
+            document: Vec::new(alloc),
+        }
+    }
+
+    fn answer(
+        &self,
+        alloc: Global,
+        kept: &mut PairBuffers,
+        line: &[u8],
+    ) -> Result<&'static [u8], AllocError> {
+        if !read_pair_into(line, &mut kept.schema, &mut kept.document)? {
             return Ok(b"bad line\n");
-        };
-        printed(judge_tree(alloc, &schema, &document)).ok_or(AllocError)
+        }
+        printed(judge_tree(alloc, &kept.schema, &kept.document)).ok_or(AllocError)
     }
 }
 

@@ -1,7 +1,8 @@
 //! A program that answers lines of bytes: it reads lines from a [`Source`], and writes one line of answer for each to a [`Sink`].
 //!
-//! A [`Command`] says which texts answer a line, and gives one of them. [`answer_lines`] is the loop. For example a command that answers
-//! each line by its length in decimal digits makes of the lines
+//! A [`Command`] says which texts answer a line, and gives one of them. It may keep buffers, or what it worked out, from line to line;
+//! which texts answer a line does not depend on that. [`answer_lines`] is the loop. For example a command that answers each line by its
+//! length in decimal digits makes of the lines
 //!
 //! ```text
 //! abc

@@ -16,11 +16,14 @@ const MAX_LINE: usize = 1 << 24;
 pub(crate) fn feed<C: Command, K: Sink>(
     command: &C,
     alloc: Global,
+    kept: &mut C::Kept,
     piece: &[u8],
     line: &mut Vec<u8>,
     sink: &mut K,
 ) -> Result<(), Status>
-    requires { IsOpenLine line.old.items }
+    requires serves { C.serves command.now kept.old }
+    requires open { IsOpenLine line.old.items }
+    ensures serves { C.serves command.now kept.new }
     ensures open { OnOk result (IsOpenLine line.new.items) }
     ensures feeds { OnOk result (Feeds (C.is_answer command.now)
         line.old.items piece.now line.new.items (K.written sink.old) (K.written sink.new)) }
@@ -33,7 +36,7 @@ pub(crate) fn feed<C: Command, K: Sink>(
 {
     let mut rest = piece;
     while let Some((part, after)) = cut_at(LINE_END, rest) {
-        end_line(command, alloc, part, line, sink)?;
+        end_line(command, alloc, kept, part, line, sink)?;
         rest = after;
     }
     extend_line(line, rest)
@@ -43,10 +46,13 @@ pub(crate) fn feed<C: Command, K: Sink>(
 pub(crate) fn finish<C: Command, K: Sink>(
     command: &C,
     alloc: Global,
+    kept: &mut C::Kept,
     line: &[u8],
     sink: &mut K,
 ) -> Result<(), Status>
-    requires { IsOpenLine line.now }
+    requires serves { C.serves command.now kept.old }
+    requires open { IsOpenLine line.now }
+    ensures serves { C.serves command.now kept.new }
     ensures rest { OnOk result (AnswersRest (C.is_answer command.now) line.now
         (K.written sink.old) (K.written sink.new)) }
     ensures stops { IfErr result (StoppedIn (C.is_answer command.now) line.now
@@ -59,7 +65,7 @@ pub(crate) fn finish<C: Command, K: Sink>(
     if line.is_empty() {
         return Ok(());
     }
-    answer_line(command, alloc, line, sink)
+    answer_line(command, alloc, kept, line, sink)
 }
 
 // Answers the line that ends with this part, and empties it. A line that lies whole in the part
@@ -67,12 +73,15 @@ pub(crate) fn finish<C: Command, K: Sink>(
 fn end_line<C: Command, K: Sink>(
     command: &C,
     alloc: Global,
+    kept: &mut C::Kept,
     part: &[u8],
     line: &mut Vec<u8>,
     sink: &mut K,
 ) -> Result<(), Status>
+    requires serves { C.serves command.now kept.old }
     requires open { IsOpenLine line.old.items }
     requires one { IsOneLine part.now }
+    ensures serves { C.serves command.now kept.new }
     ensures emptied { OnOk result (line.new.items ≡ []) }
     ensures answered { OnOk result (Answered (C.is_answer command.now) (line.old.items ++ part.now)
         (K.written sink.old) (K.written sink.new)) }
@@ -84,10 +93,10 @@ fn end_line<C: Command, K: Sink>(
     ensures last { IsErrOf result Status.WriteFault → K.last_failed sink.new }
 {
     if line.is_empty() && part.len() <= MAX_LINE {
-        return answer_line(command, alloc, part, sink);
+        return answer_line(command, alloc, kept, part, sink);
     }
     extend_line(line, part)?;
-    answer_line(command, alloc, line, sink)?;
+    answer_line(command, alloc, kept, line, sink)?;
     line.clear();
     Ok(())
 }
@@ -108,10 +117,13 @@ fn extend_line(line: &mut Vec<u8>, part: &[u8]) -> Result<(), Status>
 fn answer_line<C: Command, K: Sink>(
     command: &C,
     alloc: Global,
+    kept: &mut C::Kept,
     line: &[u8],
     sink: &mut K,
 ) -> Result<(), Status>
-    requires { IsOpenLine line.now }
+    requires serves { C.serves command.now kept.old }
+    requires open { IsOpenLine line.now }
+    ensures serves { C.serves command.now kept.new }
     ensures answered { OnOk result (Answered (C.is_answer command.now) line.now
         (K.written sink.old) (K.written sink.new)) }
     ensures stops { IfErr result (StoppedAt (C.is_answer command.now) line.now
@@ -121,7 +133,7 @@ fn answer_line<C: Command, K: Sink>(
         → StepCountsOnce Status.WriteFault (K.faults sink.old) (K.faults sink.new) result }
     ensures last { IsErrOf result Status.WriteFault → K.last_failed sink.new }
 {
-    let Ok(text) = command.answer(alloc, line) else {
+    let Ok(text) = command.answer(alloc, kept, line) else {
         return Err(Status::OutOfMemory);
     };
     match put_all(sink, text.as_slice()) {

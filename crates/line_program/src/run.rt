@@ -14,8 +14,11 @@ const MAX_TURNS: u64 = 1 << 48;
 /// Answers each line that the source has left.
 ///
 /// It reads 4,096 bytes at a time, answers each line that ended before it reads again, and hands each answer with the
-/// end of a line to the sink in one piece, and then what the sink left of it. It keeps one line in memory. Where it stops
-/// at a line, the lines before that one are answered.
+/// end of a line to the sink in one piece, and then what the sink left of it. Where it stops at a line, the lines before
+/// that one are answered.
+///
+/// It keeps in memory what the command keeps from line to line, and the part of a line that is not read to its end. It takes
+/// memory of its own only for such a part that is longer than each before.
 pub fn answer_lines<C: Command, S: Source, K: Sink>(
     command: &C,
     alloc: Global,
@@ -48,18 +51,19 @@ pub fn answer_lines<C: Command, S: Source, K: Sink>(
         → (result ≡ Status.Done) ⊎ (result ≡ Status.OutOfMemory) }
 {
     let mut buffer = [0u8; 4096];
+    let mut kept = command.start(alloc);
     let mut line = Vec::new(alloc);
     for _turn in 0..MAX_TURNS {
         let Ok(count) = source.read(&mut buffer) else {
             return Status::ReadFault;
         };
         if count == 0 {
-            if let Err(status) = finish(command, alloc, &line, sink) {
+            if let Err(status) = finish(command, alloc, &mut kept, &line, sink) {
                 return status;
             }
             return Status::Done;
         }
-        if let Err(status) = feed(command, alloc, &buffer[..count], &mut line, sink) {
+        if let Err(status) = feed(command, alloc, &mut kept, &buffer[..count], &mut line, sink) {
             return status;
         }
     }

@@ -4,13 +4,14 @@ use Rattle.line_program.proofs.Steps.{fed_line, fed_none, fed_open, fed_stops, f
 use Rattle.line_program.proofs.lines.feed.Goals as goal
 
 pub loop-part-init : goal.loop-part-init
-loop-part-init g c = record { fed = fed_none _ _ _ c.requires; later = omega arith; kept = λ each. refl }
+loop-part-init g c = record { serves = c.requires.serves; fed = fed_none _ _ _ c.requires.«open»; later = omega arith; kept = λ each. refl }
 
 pub end_line-requires : goal.end_line-requires
-end_line-requires g c = record { «open» = c.loop-part.invariant.fed.is_open; one = c.in-Some.ensures.1 }
+end_line-requires g c = record { serves = c.loop-part.invariant.serves; «open» = c.loop-part.invariant.fed.is_open; one = c.in-Some.ensures.1 }
 
 pub loop-part-preserved : goal.loop-part-preserved
 loop-part-preserved g c = record {
+  serves = c.in_ok-end_line.ensures.serves;
   fed = fed_line _ _ _ _ _ _ _ _ _ _ c.loop-part.invariant.fed c.in-Some.ensures.0 c.in_ok-end_line.ensures.emptied c.in_ok-end_line.ensures.answered;
   later = omega arith;
   kept = λ each. (c.in_ok-end_line.ensures.once each).ok ∙ c.loop-part.invariant.kept each;

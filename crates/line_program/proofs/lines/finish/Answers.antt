@@ -14,4 +14,4 @@ returns-clause-rest g c =
 pub returns-clause-stops : goal.returns-clause-stops
 returns-clause-stops g c =
     let some = some_from_test _ (sym c.is_empty.ensures ∙ c.if-is_empty.false) in
-    rest_stopped _ _ _ _ c.answer_line.result some c.requires.one c.answer_line.ensures.stops
+    rest_stopped _ _ _ _ c.answer_line.result some c.requires.«open».one c.answer_line.ensures.stops

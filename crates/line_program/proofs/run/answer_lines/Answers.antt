@@ -4,6 +4,7 @@ use Rattle.line_program.proofs.run.answer_lines.Goals as goal
 
 pub loop-turn-init : goal.loop-turn-init
 loop-turn-init g c = record {
+  serves = c.start-kept.ensures;
   going = going_none _ _ _ c.new-line.ensures.items;
   later_source = omega arith;
   later_sink = omega arith;
@@ -12,7 +13,7 @@ loop-turn-init g c = record {
 }
 
 pub feed-requires : goal.feed-requires
-feed-requires g c = c.loop-turn.invariant.going.is_open
+feed-requires g c = record { serves = c.loop-turn.invariant.serves; «open» = c.loop-turn.invariant.going.is_open }
 
 pub loop-turn-preserved : goal.loop-turn-preserved
 loop-turn-preserved g c =
@@ -21,6 +22,7 @@ loop-turn-preserved g c =
     let going = going_on _ _ _ _ _ _ _ _ _ _ c.loop-turn.invariant.going c.in-Ok.ensures.bytes.0 some
     c.in_default-feed.ensures.feeds c.in_default-feed.ensures.«open» in
     record {
+      serves = c.in_default-feed.ensures.serves;
       going = going;
       later_source = omega arith;
       later_sink = omega arith;
@@ -51,7 +53,10 @@ returns-then-count-eq0-clause-ran g c =
     ran_done _ _ _ _ _ _ _ _ c.loop-turn.invariant.going taken (c.in-Ok.ensures.bytes.1 c.if-count-eq0.true room) rest
 
 pub finish-requires : goal.finish-requires
-finish-requires g c = rw c.deref.ensures.value c.loop-turn.invariant.going.is_open
+finish-requires g c = record {
+  serves = c.loop-turn.invariant.serves;
+  «open» = rw c.deref.ensures.value c.loop-turn.invariant.going.is_open;
+}
 
 pub returns-in-Err-feed-clause-complete : goal.returns-in-Err-feed-clause-complete
 returns-in-Err-feed-clause-complete g c = λ input left short below no_read no_write.

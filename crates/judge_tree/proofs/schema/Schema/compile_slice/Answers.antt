@@ -8,8 +8,8 @@ returns-in-Err c = slice_refused c.args.schema.now c.in-Err.error c.of_slice.res
 pub returns-in-Err-compile : goal.returns-in-Err-compile
 returns-in-Err-compile c =
     schema_refused c.args.schema.now c.in-Ok.root (node_tree c.in-Ok.root) c.in-Ok.ensures.read c.in-Err-compile.error c.of_schema.result
-    c.of_schema.ensures c.in-Err-compile.ensures
+    c.of_schema.ensures c.in-Err-compile.ensures.right
 
 pub returns-in-Ok-compile : goal.returns-in-Ok-compile
 returns-in-Ok-compile c =
-    compiled c.args.schema.now c.in-Ok.root (node_tree c.in-Ok.root) c.in-Ok.ensures.read c.in-Ok-compile.compiled c.in-Ok-compile.ensures
+    compiled c.args.schema.now c.in-Ok.root (node_tree c.in-Ok.root) c.in-Ok.ensures.read c.in-Ok-compile.compiled c.in-Ok-compile.ensures.right

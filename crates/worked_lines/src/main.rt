@@ -38,6 +38,14 @@ fn answer(alloc: Global, line: &str) -> Option<String> {
         "order" => numbers::order(alloc, rest),
         "bound" => numbers::bound(alloc, rest),
         "map" => maps::map(alloc, rest),
+        "types" => types::types(alloc, rest),
+        "errors" => names::errors(alloc),
+        _ => answer_of_nodes(alloc, name, rest),
+    }
+}
+
+fn answer_of_nodes(alloc: Global, name: &str, rest: &str) -> Option<String> {
+    match name {
         "node" => nodes::node(alloc, rest),
         "place" => nodes::place(alloc, rest),
         "equal" => nodes::equality(alloc, rest),
@@ -45,24 +53,40 @@ fn answer(alloc: Global, line: &str) -> Option<String> {
         "find" => nodes::find(alloc, rest),
         "string" => nodes::string(alloc, rest),
         "conforms" => nodes::conforms(alloc, rest),
+        _ => answer_of_verdicts(alloc, name, rest),
+    }
+}
+
+fn answer_of_verdicts(alloc: Global, name: &str, rest: &str) -> Option<String> {
+    match name {
         "judge" => judging::verdict(alloc, rest),
         "deep" => judging::deep(alloc, rest),
         "nested" => nested::verdict(alloc, rest),
         "cuts" => judging::cuts(alloc, rest),
         "changes" => judging::changes(alloc, rest),
+        "run" => runs::run_row(alloc, rest),
+        _ => answer_of_bytes(alloc, name, rest),
+    }
+}
+
+fn answer_of_bytes(alloc: Global, name: &str, rest: &str) -> Option<String> {
+    match name {
         "json" => encoding::json(alloc, rest),
         "numeric" => encoding::numeric(alloc, rest),
         "containers" => encoding::containers(alloc, rest),
         "stored" => encoding::stored(alloc, rest),
         "hex" => encoding::hex(alloc, rest),
-        "run" => runs::run_row(alloc, rest),
-        "types" => types::types(alloc, rest),
+        _ => answer_of_patterns(alloc, name, rest),
+    }
+}
+
+fn answer_of_patterns(alloc: Global, name: &str, rest: &str) -> Option<String> {
+    match name {
         "pattern" => patterns::pattern(alloc, rest),
         "regex" => regexes::regex(alloc, rest),
         "regex_long" => regexes::long(alloc, rest),
         "rust" => rust_patterns::rust(alloc, rest),
         "rust_long" => rust_patterns::long(alloc, rest),
-        "errors" => names::errors(alloc),
         _ => None,
     }
 }

@@ -1,12 +1,24 @@
 //! What nested schemas answer.
 
-use crate::judging::{shown, value_of};
-use crate::texts::bytes_of;
+use crate::judging::{beside_others, shown};
+use crate::texts::{two_of, value_of};
 use json_semantics::ValueNode;
 use json_traits::Node;
 use jsonb::Jsonb;
 use judge_tree::{Schema, SchemaError, judge_tree};
 use std::alloc::Global;
+
+// What a compiled schema answers.
+fn answered<'a, D: Node<'a>>(
+    alloc: Global,
+    compiled: &Schema,
+    document: &D,
+) -> Result<bool, SchemaError> {
+    match compiled.check(alloc, document) {
+        Ok(answer) => Ok(answer),
+        Err(_) => Err(SchemaError::OutOfMemory),
+    }
+}
 
 // What a schema answers that is compiled first.
 fn checked<'a, S: Node<'a>, D: Node<'a>>(
@@ -15,10 +27,7 @@ fn checked<'a, S: Node<'a>, D: Node<'a>>(
     document: &D,
 ) -> Result<bool, SchemaError> {
     let compiled = Schema::compile(alloc, schema)?;
-    match compiled.check(alloc, document) {
-        Ok(answer) => Ok(answer),
-        Err(_) => Err(SchemaError::OutOfMemory),
-    }
+    answered(alloc, &compiled, document)
 }
 
 // What the schema answers over values in memory, and over one of each kind.
@@ -42,22 +51,12 @@ fn answers_in_memory(
     ])
 }
 
-/// `HEX HEX`: what `judge_tree` answers of a schema and a document, and each other answer that their values in memory have.
+/// `HEX HEX`: what `judge_tree` answers of a schema and a document, and each other answer that their values have in memory.
 pub(crate) fn verdict(alloc: Global, rest: &str) -> Option<String> {
-    let mut words = rest.split(' ');
-    let schema = bytes_of(alloc, words.next()?)?;
-    let document = bytes_of(alloc, words.next()?)?;
+    let (schema, document) = two_of(alloc, rest)?;
     let first = shown(alloc, &judge_tree(alloc, &schema, &document))?;
-    let mut all = first.clone().ok()?;
-    let Some(answers) = answers_in_memory(alloc, &schema, &document) else {
-        all.push_str(", as slices").ok()?;
-        return Some(all);
-    };
-    for answer in &answers {
-        let other = shown(alloc, answer)?;
-        if other != first {
-            write!(all, " but {other}").ok()?;
-        }
+    match answers_in_memory(alloc, &schema, &document) {
+        Some(answers) => beside_others(alloc, &first, &answers),
+        None => format!(in alloc; "{first}, as slices").ok(),
     }
-    Some(all)
 }

@@ -53,37 +53,47 @@ fn show_parts(alloc: Global, pattern: &Pattern) -> Option<String> {
     }
 }
 
+// The pattern that a text of less than 2^30 bytes has for a reader.
+fn read(alloc: Global, reader: &str, text: &str) -> Option<Option<Pattern>> {
+    if text.len() >= 1 << 30 {
+        return None;
+    }
+    if reader == "widened" {
+        return read_widened(alloc, text).ok();
+    }
+    read_ecma(alloc, text).ok()
+}
+
 /// `READER CODE TEXT`: the root of a pattern with its place, name and items, whether the class has the code point, and the
 /// parts of a sequence; `ecma` and `widened` are the readers.
 pub(crate) fn pattern(alloc: Global, rest: &str) -> Option<String> {
     let (reader, rest) = rest.split_once(' ')?;
     let (code, text) = rest.split_once(' ').unwrap_or((rest, ""));
-    if text.len() >= 1 << 30 {
-        return None;
+    match read(alloc, reader, text)? {
+        Some(pattern) => describe(alloc, &pattern, code),
+        None => String::from_str(alloc, "no pattern").ok(),
     }
-    let read = if reader == "widened" {
-        read_widened(alloc, text)
-    } else {
-        read_ecma(alloc, text)
-    };
-    let Some(pattern) = read.ok()? else {
-        return String::from_str(alloc, "no pattern").ok();
-    };
-    let root = pattern.root();
+}
+
+// The root of a pattern, whether it has the character of a code, its items, and its parts.
+fn describe(alloc: Global, pattern: &Pattern, code: &str) -> Option<String> {
     let has = member(
-        &pattern,
+        pattern,
         char::from_u32(u32::from_str_radix(code, 16).ok()?)?,
     );
-    let mut all = format!(in alloc;
-        "{:?} {:?} {:?} {has:?}",
-        pattern.form(root),
-        pattern.span(root),
-        pattern.name(root)
-    )
-    .ok()?;
-    for item in pattern.items(root) {
+    let mut all = show_root(alloc, pattern)?;
+    write!(all, " {has:?}").ok()?;
+    for item in pattern.items(pattern.root()) {
         write!(all, " {item:?}").ok()?;
     }
-    all.push_str(&show_parts(alloc, &pattern)?).ok()?;
+    all.push_str(&show_parts(alloc, pattern)?).ok()?;
     Some(all)
+}
+
+// The root of a pattern, with its place and name.
+fn show_root(alloc: Global, pattern: &Pattern) -> Option<String> {
+    let root = pattern.root();
+    let form = pattern.form(root);
+    let span = pattern.span(root);
+    format!(in alloc; "{form:?} {span:?} {:?}", pattern.name(root)).ok()
 }

@@ -2,7 +2,7 @@
 
 use crate::slow::{SlowSink, SlowSource};
 use crate::texts::expand;
-use judge::{MemorySink, MemorySource, SteadySink, run};
+use judge::{MemorySink, MemorySource, Sink, Status, SteadySink, run};
 use std::alloc::Global;
 
 // The numbers between commas, or none of `-`.
@@ -36,20 +36,72 @@ pub(crate) fn run_row(alloc: Global, rest: &str) -> Option<String> {
     let (reads, rest) = rest.split_once(' ')?;
     let (writes, text) = rest.split_once(' ')?;
     let words = words_of(alloc, words)?;
-    let text = expand(alloc, text)?.replace(alloc, "/", "\n").ok()?;
+    let text = text_of(alloc, text)?;
+    let steady = reads == "-" && writes == "-" && text.len() <= 100_000;
     let bytes = text.as_bytes();
-    let mut source = MemorySource::new(bytes.to_vec(alloc).ok()?, numbers(alloc, reads));
     let mut sink = MemorySink::new(alloc, numbers(alloc, writes));
-    let status = run(alloc, &words, &mut source, &mut sink);
-    let written = str::from_utf8(sink.written()).ok()?;
-    if reads != "-" || writes != "-" || text.len() > 100_000 {
-        return format!(in alloc; "{status:?} {written:?}").ok();
+    let status = run_with(alloc, &words, bytes, numbers(alloc, reads), &mut sink)?;
+    shown(alloc, &words, bytes, status, sink.written(), steady)
+}
+
+// The text of the parts, in which `/` ends a line.
+fn text_of(alloc: Global, text: &str) -> Option<String> {
+    expand(alloc, text)?.replace(alloc, "/", "\n").ok()
+}
+
+// The status of a run over the bytes, in which the reads of these numbers fail.
+fn run_with<K: Sink>(
+    alloc: Global,
+    words: &[String],
+    bytes: &[u8],
+    reads: Vec<u64>,
+    sink: &mut K,
+) -> Option<Status> {
+    let mut source = MemorySource::new(bytes.to_vec(alloc).ok()?, reads);
+    Some(run(alloc, words, &mut source, sink))
+}
+
+// The status of a run over streams of one byte at a time.
+fn run_slowly(
+    alloc: Global,
+    words: &[String],
+    bytes: &[u8],
+    sink: &mut SlowSink,
+) -> Option<Status> {
+    let mut source = SlowSource::new(bytes.to_vec(alloc).ok()?);
+    Some(run(alloc, words, &mut source, sink))
+}
+
+// A run's status and what it has written; and where no stream fails, whether other streams end with the same.
+fn shown(
+    alloc: Global,
+    words: &[String],
+    bytes: &[u8],
+    status: Status,
+    written: &[u8],
+    steady: bool,
+) -> Option<String> {
+    let text = str::from_utf8(written).ok()?;
+    if !steady {
+        return format!(in alloc; "{status:?} {text:?}").ok();
     }
-    let mut slow_source = SlowSource::new(bytes.to_vec(alloc).ok()?);
-    let mut slow_sink = SlowSink::new(alloc);
-    let slow = run(alloc, &words, &mut slow_source, &mut slow_sink);
-    let mut again = MemorySource::new(bytes.to_vec(alloc).ok()?, Vec::new(alloc));
-    let steady = run(alloc, &words, &mut again, &mut SteadySink::new());
-    let alike = slow == status && steady == status && slow_sink.written() == sink.written();
-    format!(in alloc; "{status:?} {alike} {written:?}").ok()
+    let slowly = slow_end(alloc, words, bytes, written)?;
+    let again = run_with(alloc, words, bytes, Vec::new(alloc), &mut SteadySink::new())?;
+    let alike = slowly == Some(status) && again == status;
+    format!(in alloc; "{status:?} {alike} {text:?}").ok()
+}
+
+// The status of a run over streams of one byte at a time, where it has written the same.
+fn slow_end(
+    alloc: Global,
+    words: &[String],
+    bytes: &[u8],
+    written: &[u8],
+) -> Option<Option<Status>> {
+    let mut sink = SlowSink::new(alloc);
+    let status = run_slowly(alloc, words, bytes, &mut sink)?;
+    if sink.written() == written {
+        return Some(Some(status));
+    }
+    Some(None)
 }

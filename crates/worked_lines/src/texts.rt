@@ -1,6 +1,8 @@
 //! Texts and bytes as a line gives them.
 
 use json_exact::Value;
+use json_traits::Node;
+use jsonb::Jsonb;
 use jsonb::encode::{decode_hex, encode, encode_nested_arrays, to_hex};
 use std::alloc::Global;
 
@@ -10,19 +12,25 @@ use std::alloc::Global;
 pub(crate) fn expand(alloc: Global, text: &str) -> Option<String> {
     let mut all = String::new(alloc);
     for part in text.split(',') {
-        if let Some(depth) = part.strip_prefix('~') {
-            let bytes = encode_nested_arrays(alloc, depth.parse().ok()?).ok()?;
-            all.push_str(&to_hex(alloc, &bytes).ok()?).ok()?;
-        } else if let Some((element, count)) = part.split_once('#') {
-            let bytes = array_of(alloc, element, count.parse().ok()?)?;
-            all.push_str(&to_hex(alloc, &bytes).ok()?).ok()?;
-        } else {
-            let (piece, times) = part.split_once('*').unwrap_or((part, "1"));
-            let pieces = piece.repeat(alloc, times.parse().ok()?).ok()?;
-            all.push_str(&pieces).ok()?;
-        }
+        all.push_str(&expand_part(alloc, part)?).ok()?;
     }
     Some(all)
+}
+
+// What one part stands for.
+fn expand_part(alloc: Global, part: &str) -> Option<String> {
+    if let Some(depth) = part.strip_prefix('~') {
+        return to_hex(
+            alloc,
+            &encode_nested_arrays(alloc, depth.parse().ok()?).ok()?,
+        )
+        .ok();
+    }
+    if let Some((element, count)) = part.split_once('#') {
+        return to_hex(alloc, &array_of(alloc, element, count.parse().ok()?)?).ok();
+    }
+    let (piece, times) = part.split_once('*').unwrap_or((part, "1"));
+    piece.repeat(alloc, times.parse().ok()?).ok()
 }
 
 // The bytes of the array of so many elements, or of whole numbers where the element is empty.
@@ -45,4 +53,32 @@ fn array_of(alloc: Global, element: &str, count: u32) -> Option<Vec<u8>> {
 /// The bytes whose hex is the text of the parts.
 pub(crate) fn bytes_of(alloc: Global, text: &str) -> Option<Vec<u8>> {
     decode_hex(alloc, &expand(alloc, text)?).ok()
+}
+
+/// The bytes of the first two words.
+pub(crate) fn two_of(alloc: Global, rest: &str) -> Option<(Vec<u8>, Vec<u8>)> {
+    let (first, others) = rest.split_once(' ')?;
+    let first = bytes_of(alloc, first)?;
+    let second = bytes_of(alloc, first_word(others))?;
+    Some((first, second))
+}
+
+/// What stands before the first space.
+pub(crate) fn first_word(rest: &str) -> &str {
+    let (first, _) = rest.split_once(' ').unwrap_or((rest, ""));
+    first
+}
+
+/// The value that the bytes stand for, where it nests at most 128 containers.
+pub(crate) fn value_of(alloc: Global, bytes: &[u8]) -> Option<Value> {
+    let root = Jsonb::root(alloc, bytes).ok()?;
+    root.to_value(alloc).ok()?.into_owned(alloc).ok()
+}
+
+/// The two texts, or one where they are the same.
+pub(crate) fn one_or_both(alloc: Global, one: &str, other: &str) -> Option<String> {
+    if one == other {
+        return String::from_str(alloc, one).ok();
+    }
+    format!(in alloc; "{one} but {other}").ok()
 }

@@ -29,7 +29,8 @@ mod types;
 use std::alloc::Global;
 use std::io;
 
-// The answer of a line, or none where it asks for nothing that is known.
+// The answer of a line, or none where it asks for nothing that is known. Each of these functions knows some names, and leaves the
+// others to the next.
 fn answer(alloc: Global, line: &str) -> Option<String> {
     let (name, rest) = line.split_once(' ').unwrap_or((line, ""));
     match name {
@@ -44,6 +45,7 @@ fn answer(alloc: Global, line: &str) -> Option<String> {
     }
 }
 
+// What nodes and values in them say.
 fn answer_of_nodes(alloc: Global, name: &str, rest: &str) -> Option<String> {
     match name {
         "node" => nodes::node(alloc, rest),
@@ -57,6 +59,7 @@ fn answer_of_nodes(alloc: Global, name: &str, rest: &str) -> Option<String> {
     }
 }
 
+// Verdicts, and runs over lines.
 fn answer_of_verdicts(alloc: Global, name: &str, rest: &str) -> Option<String> {
     match name {
         "judge" => judging::verdict(alloc, rest),
@@ -69,6 +72,7 @@ fn answer_of_verdicts(alloc: Global, name: &str, rest: &str) -> Option<String> {
     }
 }
 
+// Bytes that are made.
 fn answer_of_bytes(alloc: Global, name: &str, rest: &str) -> Option<String> {
     match name {
         "json" => encoding::json(alloc, rest),
@@ -80,6 +84,7 @@ fn answer_of_bytes(alloc: Global, name: &str, rest: &str) -> Option<String> {
     }
 }
 
+// Patterns.
 fn answer_of_patterns(alloc: Global, name: &str, rest: &str) -> Option<String> {
     match name {
         "pattern" => patterns::pattern(alloc, rest),

@@ -46,6 +46,11 @@ fn short<'a, N: Node<'a>>(alloc: Global, node: &N) -> Option<String> {
     }
 }
 
+// A string or a number as it is written, and of another value its type.
+fn add_short<'a, N: Node<'a>>(alloc: Global, all: &mut String, node: &N) -> Option<()> {
+    all.push_str(&short(alloc, node)?).ok()
+}
+
 // What a node says of itself, and of the values in it.
 fn describe<'a, N: Node<'a>>(alloc: Global, node: &N) -> Option<String> {
     let mut all = describe_alone(alloc, node)?;
@@ -82,10 +87,11 @@ fn add_elements<'a, A: Array<'a, Node: Node<'a>>>(
     all: &mut String,
     array: A,
 ) -> Option<()> {
-    write!(all, " {} {}", array.len(), array.is_unique(alloc).ok()?).ok()?;
+    let unique = array.is_unique(alloc).ok()?;
+    write!(all, " {} {unique}", array.len()).ok()?;
     for element in array.elements().take(40) {
-        let text = short(alloc, &element)?;
-        write!(all, " {text}").ok()?;
+        all.push(' ').ok()?;
+        add_short(alloc, all, &element)?;
     }
     Some(())
 }
@@ -98,8 +104,8 @@ fn add_members<'a, O: Object<'a, Node: Node<'a>>>(
 ) -> Option<()> {
     write!(all, " {} {}", object.len(), object.is_empty()).ok()?;
     for (name, value) in object.members() {
-        let text = short(alloc, &value)?;
-        write!(all, " {name}:{text}").ok()?;
+        write!(all, " {name}:").ok()?;
+        add_short(alloc, all, &value)?;
     }
     Some(())
 }
@@ -340,7 +346,8 @@ pub(crate) fn conforms(alloc: Global, rest: &str) -> Option<String> {
 fn document_conforms(alloc: Global) -> Option<String> {
     let bytes = encode(alloc, &document(alloc).ok()?).ok()?;
     let answer = conformance(alloc, &bytes)?;
-    format!(in alloc; "{answer} {}", to_hex(alloc, &bytes).ok()?).ok()
+    let hex = to_hex(alloc, &bytes).ok()?;
+    format!(in alloc; "{answer} {hex}").ok()
 }
 
 // The first rule of conformance that the value breaks, as a slice and as a value in memory.

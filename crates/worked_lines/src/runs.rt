@@ -61,17 +61,6 @@ fn run_with<K: Sink>(
     Some(run(alloc, words, &mut source, sink))
 }
 
-// The status of a run over streams of one byte at a time.
-fn run_slowly(
-    alloc: Global,
-    words: &[String],
-    bytes: &[u8],
-    sink: &mut SlowSink,
-) -> Option<Status> {
-    let mut source = SlowSource::new(bytes.to_vec(alloc).ok()?);
-    Some(run(alloc, words, &mut source, sink))
-}
-
 // A run's status and what it has written; and where no stream fails, whether other streams end with the same.
 fn shown(
     alloc: Global,
@@ -85,23 +74,22 @@ fn shown(
     if !steady {
         return format!(in alloc; "{status:?} {text:?}").ok();
     }
-    let slowly = slow_end(alloc, words, bytes, written)?;
+    let slowly = slow_run_is_alike(alloc, words, bytes, status, written)?;
     let again = run_with(alloc, words, bytes, Vec::new(alloc), &mut SteadySink::new())?;
-    let alike = slowly == Some(status) && again == status;
+    let alike = slowly && again == status;
     format!(in alloc; "{status:?} {alike} {text:?}").ok()
 }
 
-// The status of a run over streams of one byte at a time, where it has written the same.
-fn slow_end(
+// Whether a run over streams of one byte at a time has the same status, and writes the same.
+fn slow_run_is_alike(
     alloc: Global,
     words: &[String],
     bytes: &[u8],
+    status: Status,
     written: &[u8],
-) -> Option<Option<Status>> {
+) -> Option<bool> {
+    let mut source = SlowSource::new(bytes.to_vec(alloc).ok()?);
     let mut sink = SlowSink::new(alloc);
-    let status = run_slowly(alloc, words, bytes, &mut sink)?;
-    if sink.written() == written {
-        return Some(Some(status));
-    }
-    Some(None)
+    let slowly = run(alloc, words, &mut source, &mut sink);
+    Some(slowly == status && sink.written() == written)
 }

@@ -1,5 +1,5 @@
 -- What is found in frames, value by value.
-use Rattle.std.proofs.Common.{◌≡◌, ℕ, suc, ◌+◌, ◌-◌, ◌<◌, ◌≤◌, Bool, true, false, eqb, List, [], ◌∷◌, ◌++◌, length, Option, Some, None, refl, sym, ap, subst, ◌∙◌, arith}
+use Rattle.std.proofs.Common.{◌≡◌, ℕ, zero, suc, ◌+◌, ◌-◌, ◌*◌, ◌/◌, ◌<◌, ◌≤◌, Bool, true, false, eqb, List, [], ◌∷◌, ◌++◌, length, Option, Some, None, refl, sym, ap, subst, ◌∙◌, arith}
 use Rattle.std.specs.Prelude.{option_map, max}
 use Rattle.std.proofs.lemmas.Bool.{eq-eqb, ne_eqb}
 use Rattle.json_model.specs.Tree.{Scalar, Tree, scalar, array, object, Elements, no_elements, element}
@@ -12,6 +12,7 @@ use Rattle.jsonb_layout.specs.inner.Reading.{Place, item_at, unpadded, scalar_of
 use Rattle.jsonb_layout.specs.inner.Trees.{item_by, elements_by, members, held_by, read, item_tree}
 use Rattle.jsonb_layout.proofs.Tools.{bind_some, some_is, less_one}
 use Rattle.jsonb_layout.proofs.Openings.{ended_is}
+use Rattle.jsonb_layout.proofs.Sizes.{item_takes}
 use Rattle.jsonb_layout.proofs.Containers.{count}
 use Rattle.jsonb_layout.proofs.Shapes.{elements_count, keys_count, read_no_scalar}
 use Rattle.jsonb_layout.proofs.Unrolled.{read_unroll}
@@ -218,6 +219,23 @@ next_read n p q x r e h =
     let b = bind_some (item_by read p.at x) (λ t. elements_by read n q >>= λ ts. Some (element t ts.0, ts.1)) r s in
     let c = bind_some (elements_by read n q) (λ ts. Some (element b.0 ts.0, ts.1)) r b.2 in
     record { tree = b.0; more = c.0; reads = b.1; goes_on = c.1; whole = some_is (element b.0 c.0.0, c.0.1) r c.2 }
+
+-- each value has an entry word
+values_words : (n : ℕ) (p : Place) (r : Elements × Place) → elements_by read n p ≡ Some r → 4 * n ≤ length p.words
+unfolding elements_by
+values_words zero p r e = omega arith
+values_words (suc n) p r e =
+    let a = bind_some (item_at p) (λ y. runs_on n y p.at) r e in
+    let x = next_read n p a.0.1 a.0.0 r (sym a.1) e in
+    omega (arith, (item_takes p a.0.1 a.0.0 a.1).words, values_words n a.0.1 x.more x.goes_on)
+
+-- where there are fewer entry words than values, what is left can not be read
+pub few_values : (n : ℕ) (p : Place) → length p.words / 4 < n → rest_found n p ≡ None
+few_values n p few = go (rest_found n p) refl
+  where
+    go : (g : Option Found) → rest_found n p ≡ g → g ≡ None
+    go None e = refl
+    go (Some g) e = let r = rest_read n p g e in absurd (omega (arith, few, values_words n p r.0 r.1))
 
 -- a value is left of n from p on: x, with q behind it
 pub record Left (n : ℕ) (p : Place) (x : Item) (q : Place) : Type 0 where

@@ -1,10 +1,10 @@
 -- Reading the scalars of a frame one after the other, as a loop does.
-use Rattle.std.proofs.Common.{◌≡◌, ℕ, ◌+◌, ◌-◌, ◌<◌, ◌≤◌, Option, Some, None, sym, ap, subst, ◌∙◌, arith, List}
+use Rattle.std.proofs.Common.{◌≡◌, ℕ, ◌+◌, ◌-◌, ◌*◌, ◌/◌, ◌<◌, ◌≤◌, length, Option, Some, None, refl, sym, ap, subst, ◌∙◌, arith, List}
 use Rattle.std.specs.Prelude.{option_map}
 use Rattle.jsonb_layout.specs.Layout.{Item}
 use Rattle.jsonb_layout.specs.inner.Reading.{Place, size, item_at, scalar_of}
 use Rattle.jsonb_layout.specs.inner.Trees.{item_tree}
-use Rattle.jsonb_layout.proofs.Sizes.{item_size}
+use Rattle.jsonb_layout.proofs.Sizes.{item_size, item_takes}
 use Rattle.jsonb.specs.declared.error.JsonbError.{JsonbError}
 use Rattle.jsonb.specs.declared.error.JsonbError.TheVariants as errors
 use Rattle.jsonb.specs.declared.found.Found.{Found}
@@ -73,9 +73,21 @@ module _ {f : Found} {n i : ℕ} {p start : Place} (so_far : ScalarsSoFar f n i 
               subst (λ (m : ℕ). Flat m q) k (stays_flat left r.0 r.1 (so_far.flat a there flat));
         }
 
--- where `left` of n values are left, n - left were read
-abbrev pub ScalarsLeft : Found → ℕ → ℕ → Place → Place → Type 0
-ScalarsLeft f n left p start = ScalarsSoFar f n (n - left) p start × (left ≤ n)
+-- where `left` of n values are left, n - left were read, and the entry words of the others are there
+pub record ScalarsLeft (f : Found) (n left : ℕ) (p start : Place) : Type 0 where
+  pub so_far : ScalarsSoFar f n (n - left) p start
+  pub few : left ≤ n
+  pub room : 4 * left ≤ length p.words
+
+-- before the first
+pub scalars_left : (n : ℕ) (start : Place) → n ≤ length start.words / 4 → ScalarsLeft nothing n n start start
+scalars_left n start room =
+    let z : 0 ≡ n - n = omega arith in
+    record {
+      so_far = subst (λ (i : ℕ). ScalarsSoFar nothing n i start start) z (scalars_begin n start start refl);
+      few = omega arith;
+      room = omega (arith, room);
+    }
 
 module _ {f : Found} {n left : ℕ} {p start : Place} (so_far : ScalarsLeft f n left p start) (some : 0 < left)
     (q : Place) (x : Item) (e : Some (x, q) ≡ item_at p) where
@@ -83,11 +95,15 @@ module _ {f : Found} {n left : ℕ} {p start : Place} (so_far : ScalarsLeft f n 
   pub scalars_one_more : (x.kind ≡ 5 → ⊥) → (g h : Found) → h ≡ both f g → Some g ≡ option_map scalar_found (scalar_of p.at x)
       → ScalarsLeft h n (left - 1) q start
   scalars_one_more other g h is there =
-      let i : n - left + 1 ≡ n - (left - 1) = omega (arith, so_far.1, some) in
-      let more = scalars_go_on so_far.0 (omega (arith, so_far.1, some)) q x e other g there in (
-        subst (λ (a : Found). ScalarsSoFar a n (n - (left - 1)) q start) (sym is) (subst (λ (j : ℕ). ScalarsSoFar (both f g) n j q start) i more),
-        omega (arith, so_far.1),
-      )
+      let few = so_far.few in
+      let i : n - left + 1 ≡ n - (left - 1) = omega (arith, few, some) in
+      let more = scalars_go_on so_far.so_far (omega (arith, few, some)) q x e other g there in
+      record {
+        so_far = subst (λ (a : Found). ScalarsSoFar a n (n - (left - 1)) q start) (sym is)
+            (subst (λ (j : ℕ). ScalarsSoFar (both f g) n j q start) i more);
+        few = omega (arith, few);
+        room = omega (arith, (item_takes p q x (sym e)).words, so_far.room);
+      }
 
   -- and nothing is found in a plain one
   pub scalars_plain : (h : Found) → h ≡ f → IsPlain p.at x → ScalarsLeft h n (left - 1) q start

@@ -20,7 +20,7 @@ use crate::item::Item;
 use crate::keys::key_faults;
 use crate::opening::open;
 use crate::scalar::{faults_of, is_plain, scalar_faults, unpad};
-use crate::walk::next_item;
+use crate::walk::{first_item, next_item};
 use jsonb_layout::Form;
 use smallvec::SmallVec;
 use std::alloc::Global;
@@ -70,7 +70,6 @@ fn value_faults<'a>(at: usize, item: Item<'a>, frame: &mut Frame<'a>) -> Option<
 }
 
 /// Puts off what is left of a container, unless nothing is.
-#[inline(never)]
 fn suspend<'a>(frame: Frame<'a>, suspended: &mut Suspended<'a>) -> Result<(), JsonbError>
     ensures found { OnOk result
         (frames_found suspended.new.items
@@ -93,17 +92,20 @@ fn suspend<'a>(frame: Frame<'a>, suspended: &mut Suspended<'a>) -> Result<(), Js
 }
 
 /// Reads the values of a frame that stand in front of the first container, and answers what was found in them. The frame becomes what
-/// is left.
+/// is left. One look tells whether all entry words are there.
 #[inline(never)]
 fn scalars(frame: &mut Frame<'_>) -> Option<Found>
     ensures found { frame_found frame.old ≡ entered (found_then frame.new result) }
     ensures shorter { IfSome result (λ _. Shortens frame.old frame.new) }
 {
     let mut left = frame.left;
+    if frame.start.words.len() / 4 < left {
+        return None;
+    }
     let mut current = frame.start;
     let mut found = Found::NOTHING;
     while left > 0 {
-        let (item, behind) = next_item(current)?;
+        let (item, behind) = first_item(current)?;
         if !is_plain(current.at, item.number(), item.piece(), current.rest) {
             if item.is_container() {
                 break;

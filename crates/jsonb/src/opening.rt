@@ -46,10 +46,8 @@ fn header_of(bytes: &[u8]) -> Option<(Form, usize)>
     ensures few { IfSome result (λ r. r.1 < 2 ^ 28) }
     ensures long { IfSome result (λ _. 4 ≤ length bytes.now) }
 {
-    if bytes.len() < 4 {
-        return None;
-    }
-    form_of_word(u32::from_le_bytes([bytes[0], bytes[1], bytes[2], bytes[3]]))
+    let front = bytes.first_chunk::<4>()?;
+    form_of_word(u32::from_le_bytes(*front))
 }
 
 /// Whether a container is an object, by its header word alone.

@@ -5,16 +5,16 @@ use Rattle.judge_tree.specs.declared.tree_error.TreeError.TheVariants.{OutOfMemo
 use Rattle.judge_tree_main.specs.Answers.{LineAnswer, name_of}
 use Rattle.judge_tree_main.proofs.answer.CheckCommandCommand.answer.Goals as goal
 
-pub returns-in_default : goal.returns-in_default
-returns-in_default c = record {
+pub returns-then-not-branch-clause-answers : goal.returns-then-not-branch-clause-answers
+returns-then-not-branch-clause-answers c = record {
   answer = codes "bad line";
-  right = inr (record { no_pair = rw c.in_default.is at c.in_ok-schema.ensures; named = refl });
+  right = inr (record { no_pair = λ k d pair. (let is = c.in_ok-read_pair_into.ensures.all k d pair in cc); named = refl });
   is = refl;
 }
 
-pub returns : goal.returns
-returns c =
-    let pair = rw c.in-Some.is at c.in_ok-schema.ensures in
+pub returns-clause-answers : goal.returns-clause-answers
+returns-clause-answers c =
+    let pair = c.in_ok-read_pair_into.ensures.pair c.if-not-branch.false in
     let right = rw (c.deref.ensures.value, c.deref-2.ensures.value) at c.judge_tree.ensures in
     printed_answer name_of (Err OutOfMemory) (Right _ _) LineAnswer c.args.line.now refl
     (λ v name said named. inl (record { schema = _; document = _; verdict = v; pair = pair; right = said; named = named }))

@@ -9,7 +9,7 @@ use Rattle.judge_c.proofs.compiled_tree.compile_tree.Goals as goal
 pub returns-in-Err : goal.returns-in-Err
 returns-in-Err c =
     schema_refused c.args.schema.now (node_tree c.in-Ok.root) c.in-Ok.ensures c.in-Err.error c.refusal.result c.refusal.ensures
-    c.in-Err.ensures
+    c.in-Err.ensures.right
 
 pub returns-in-Err-Faulty : goal.returns-in-Err-Faulty
 returns-in-Err-Faulty c =

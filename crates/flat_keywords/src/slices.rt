@@ -20,7 +20,7 @@ use std::alloc::Global;
 impl Checks {
     /// Compiles the keyword object of a draft that `jsonb` bytes stand for. The bytes are checked completely.
     ///
-    /// An error is what `judge_draft` answers to these keywords, whatever the document.
+    /// An error is what `judge_draft` answers to these keywords, whatever the document, or want of memory.
     pub fn compile_slice(alloc: Global, draft: Draft, keywords: &[u8]) -> Result<Checks, JudgeError>
         ensures right { (result ≡ Err JudgeError.OutOfMemory)
             ⊎ MatchResult result (IsCompiledOf draft keywords.now) (IsRefusedFor draft keywords.now) }
@@ -39,7 +39,7 @@ impl Checks {
 
     /// Whether the document is valid under the keyword object of which the checks were compiled. The document is checked completely.
     ///
-    /// Memory is taken for containers inside others, and for an array under `uniqueItems` with true, alone.
+    /// By review, memory is taken for containers inside others, and for an array under `uniqueItems` with true, alone.
     pub fn judge_slice(&self, alloc: Global, document: &[u8]) -> Result<bool, JudgeError>
         ensures right { (draft : Draft) (keywords : List ℕ) → IsCompiledOf draft keywords self.now
             → (result ≡ Err JudgeError.OutOfMemory) ⊎ RightBy draft keywords document.now result }

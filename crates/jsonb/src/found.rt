@@ -22,8 +22,8 @@ impl Found {
         ensures { result ≡ both self other }
     {
         Found {
-            not_text: self.not_text || other.not_text,
-            wide: self.wide || other.wide,
+            not_text: self.not_text | other.not_text,
+            wide: self.wide | other.wide,
         }
     }
 }

@@ -23,8 +23,9 @@ pub fn read_pair(alloc: Global, line: &[u8]) -> Result<Option<(Vec<u8>, Vec<u8>)
     }
 }
 
-/// Reads the two hex texts of a line, as [`read_pair`] does, into two buffers in place of what these held; whether the line is such. It
-/// takes memory only where a buffer has no room. An error is want of memory.
+/// Reads the two hex texts of a line, as [`read_pair`] does, into two buffers in place of what these held; whether the line is such.
+/// Where it is not, and after an error, the buffers may hold anything. By review, it takes memory only where a buffer has no room. An
+/// error is want of memory.
 pub fn read_pair_into(
     line: &[u8],
     keywords: &mut Vec<u8>,

@@ -24,7 +24,7 @@ use std::alloc::Global;
 /// end of a line to the sink in one piece, and then what the sink left of it. Where it stops at a line, the lines before
 /// that one are answered. With `make` it reads nothing.
 ///
-/// With `check` and `check4` it keeps the bytes of one pair in memory, and the keywords of the last pair, compiled, with their
+/// By review, with `check` and `check4` it keeps the bytes of one pair in memory, and the keywords of the last pair, compiled, with their
 /// hex text: where a line has that hex text, its keywords are not compiled anew. So it takes memory for a line only where a buffer
 /// has to grow, where other keywords are compiled, and where judging the document takes it, as `flat_keywords` says.
 pub fn run<S: Source, K: Sink>(

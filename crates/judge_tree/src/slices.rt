@@ -13,7 +13,7 @@ use std::alloc::Global;
 impl Schema {
     /// Compiles the schema that `jsonb` bytes stand for. The bytes are checked completely.
     ///
-    /// An error is what `judge_tree` answers to this schema, whatever the document.
+    /// An error is what `judge_tree` answers to this schema, whatever the document, or want of memory.
     pub fn compile_slice(alloc: Global, schema: &[u8]) -> Result<Schema, TreeError>
         ensures { (result ≡ Err TreeError.OutOfMemory)
             ⊎ MatchResult result (IsCompiledOf schema.now) (IsRefusedFor schema.now) }
@@ -30,7 +30,7 @@ impl Schema {
 
     /// Whether the document is valid under the schema that was compiled. The document is checked completely.
     ///
-    /// Memory is taken for containers inside others, and for arrays under `uniqueItems` with true, alone.
+    /// By review, memory is taken for containers inside others, and for arrays under `uniqueItems` with true, alone.
     pub fn judge_slice(&self, alloc: Global, document: &[u8]) -> Result<bool, TreeError>
         ensures { (schema : List ℕ) → IsCompiledOf schema self.now
             → (result ≡ Err TreeError.OutOfMemory) ⊎ Right schema document.now result }

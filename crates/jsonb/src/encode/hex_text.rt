@@ -44,7 +44,7 @@ pub fn decode_hex(alloc: Global, text: &str) -> Result<Vec<u8>, HexError>
 /// Reads a text as [`decode_hex`] does, into a buffer, in place of what that held. After an error the buffer is empty.
 ///
 /// It takes memory only where the buffer has no room for the bytes, and the buffer keeps its room. So a caller that reads many texts into
-/// one buffer takes none for a text that is no longer than one before it.
+/// one buffer takes none for a text that is no longer than one that was read before it.
 pub fn decode_hex_into(text: &[u8], bytes: &mut Vec<u8>) -> Result<(), HexError>
     ensures ok { OnOk result (IsHexText text.now bytes.new.items) }
     ensures empty { OnErr result (bytes.new.items ≡ []) }

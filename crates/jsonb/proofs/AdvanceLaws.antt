@@ -61,6 +61,9 @@ pub record NextItem (frame : Frame) : Type 0 where
   pub some : frame.left ≡ 0 → ⊥
   pub reads : Some (item, behind) ≡ item_at (place frame.start)
 
+abbrev pub item_there : (frame : Frame) (x : Item) (q : Place) → (frame.left ≡ 0 → ⊥) → Some (x, q) ≡ item_at (place frame.start) → NextItem frame
+item_there frame x q some e = record { item = x; behind = q; some = some; reads = e }
+
 -- what is found in it, and the frame inside, if it is a container
 pub record NextValue {frame : Frame} (next : NextItem frame) : Type 0 where
   pub found : Found
@@ -136,16 +139,15 @@ module _ {frame : Frame} (next : NextItem frame) where
       flat = λ g there flat o. absurd (no_inside_there g there flat inside);
     }
 
-    -- why the rest could not be put off
-    pub not_put_off : (e : JsonbError) → IsInside (place frame.start).at next.item → SuspendCause (rest_found (frame.left - 1) next.behind) e
-        → AdvanceCause frame e
-    not_put_off errors.Malformed inside h =
-        value_is
-        ∙ ap (λ (a : Option Found). combine (Some value.found) (combine (next_found value.inner) a)) h
-        ∙ ap (combine (Some value.found)) (combine_none (next_found value.inner))
-    not_put_off errors.NotText inside h = h
-    not_put_off errors.NumberTooWide inside h = h
-    not_put_off errors.OutOfMemory inside h = λ g there flat. no_inside_there g there flat inside
+  -- why the rest could not be put off
+  pub not_put_off : (e : JsonbError) → IsInside here.at next.item → SuspendCause others e → AdvanceCause frame e
+  not_put_off errors.Malformed inside h =
+      rest_some frame.left here more next.item next.behind next.reads
+      ∙ ap (combine (option_map tree_found (item_tree here.at next.item))) h
+      ∙ combine_none (option_map tree_found (item_tree here.at next.item))
+  not_put_off errors.NotText inside h = h
+  not_put_off errors.NumberTooWide inside h = h
+  not_put_off errors.OutOfMemory inside h = λ g there flat. no_inside_there g there flat inside
 
 -- a frame without its next item can not be read
 pub no_item : (frame : Frame) → (frame.left ≡ 0 → ⊥) → None ≡ item_at (place frame.start) → frame_found frame ≡ None

@@ -142,12 +142,14 @@ eights_rest a b x y h = rw (take_rest x 8, take_rest y 8) h
 -- the front of bytes, by their first eight as one number
 front_is : (xs : List ℕ) → IsBytes xs → 8 ≤ length xs → to_be_bytes w64 (first_eight xs) ≡ take 8 xs
 front_is xs is le =
-    let p : take 8 xs ≡ get_or xs 0 0 ∷ get_or xs 1 0 ∷ get_or xs 2 0 ∷ get_or xs 3 0 ∷ get_or xs 4 0 ∷ get_or xs 5 0 ∷ get_or xs 6 0 ∷ get_or xs 7 0 ∷ [] =
+    let p : take 8 xs
+    ≡ get_or xs 0 0 ∷ get_or xs 1 0 ∷ get_or xs 2 0 ∷ get_or xs 3 0 ∷ get_or xs 4 0 ∷ get_or xs 5 0 ∷ get_or xs 6 0 ∷ get_or xs 7 0 ∷ [] =
     ap (λ (ys : List ℕ). take 8 ys) (taken_apart xs le) in
     be_bytes_8 (take 8 xs) (first_eight xs) (length-take-le 8 xs le) (IsBytes-take 8 xs is) (ap (λ (ys : List ℕ). from_be_bytes w64 ys) (sym p))
 
 -- the same bytes in front do not tell
-same_front : (n : ℕ) (xs ys : List ℕ) → n ≤ length xs → n ≤ length ys → take n xs ≡ take n ys → bytes_before xs ys ≡ bytes_before (drop n xs) (drop n ys)
+same_front : (n : ℕ) (xs ys : List ℕ) → n ≤ length xs → n ≤ length ys → take n xs ≡ take n ys
+    → bytes_before xs ys ≡ bytes_before (drop n xs) (drop n ys)
 same_front zero xs ys le me e = refl
 same_front (suc n) [] ys le me e = absurd (omega (arith, le))
 same_front (suc n) (x ∷ xs) [] le me e = absurd (omega (arith, me))

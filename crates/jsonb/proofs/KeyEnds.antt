@@ -25,8 +25,8 @@ one_less k None = refl
 one_less k (Some r) = refl
 
 -- where the keys end of which this is the first, if it rises
-step : (t u : Bool) (k : List ℕ) (q : Place) (r : Option (List (List ℕ) × Place)) (f : List ℕ × Place → Option Place) → f (k, q) ≡ only_if u (keys_end r)
-    → keys_end (only_if (t && u) r >>= λ ks. Some (k ∷ ks.0, ks.1)) ≡ (only_if t (some (k, q)) >>= f)
+step : (t u : Bool) (k : List ℕ) (q : Place) (r : Option (List (List ℕ) × Place)) (f : List ℕ × Place → Option Place)
+    → f (k, q) ≡ only_if u (keys_end r) → keys_end (only_if (t && u) r >>= λ ks. Some (k ∷ ks.0, ks.1)) ≡ (only_if t (some (k, q)) >>= f)
 step false u k q r f e = refl
 step true false k q r f e = sym e
 step true true k q r f e = one_less k r ∙ sym e
@@ -41,7 +41,8 @@ one_key n b p = go (item_at p)
     others k = only_if (key_before b k.0) (keys_end (keys_at n (Some k.0) k.1))
 
     go : (r : Option (Item × Place))
-        → keys_end (r >>= λ x. only_if (eqb x.0.kind 0 && key_before b x.0.piece) (keys_at n (Some x.0.piece) x.1) >>= λ ks. Some (x.0.piece ∷ ks.0, ks.1))
+        → keys_end
+        (r >>= λ x. only_if (eqb x.0.kind 0 && key_before b x.0.piece) (keys_at n (Some x.0.piece) x.1) >>= λ ks. Some (x.0.piece ∷ ks.0, ks.1))
         ≡ ((r >>= λ x. only_if (eqb x.0.kind 0) (Some (x.0.piece, x.1))) >>= others)
     go None = refl
     go (Some x) = step (eqb x.0.kind 0) (key_before b x.0.piece) x.0.piece x.1 (keys_at n (Some x.0.piece) x.1) others refl

@@ -3,6 +3,7 @@ pub mod Groups
 pub mod SmallNumbers
 pub mod FoundLaws
 pub mod NextItem
+pub mod PieceLaws
 pub mod KeyLoop
 pub mod KeyBytes
 pub mod KeyEnds
@@ -11,6 +12,7 @@ pub mod PlainLaws
 pub mod Scalars
 pub mod LeapLaws
 pub mod FrameLaws
+pub mod EnterLaws
 pub mod AdvanceLaws
 pub mod TreeCauses
 pub mod RootLaws

@@ -15,7 +15,8 @@ unfolding scalar_of
 plain_string at piece low = rw (ascii_text piece low) refl
 
 -- null and the truth values have no bytes, and nothing is found in them
-pub plain_literal : (at n : ℕ) (piece : List ℕ) → (n ≡ 0 → ⊥) → (n ≡ 1 → ⊥) → n ≤ 4 → length piece ≤ 0 → IsPlain at (record { kind = n; piece = piece })
+pub plain_literal : (at n : ℕ) (piece : List ℕ) → (n ≡ 0 → ⊥) → (n ≡ 1 → ⊥) → n ≤ 4 → length piece ≤ 0
+    → IsPlain at (record { kind = n; piece = piece })
 unfolding scalar_of
 plain_literal at zero piece a b c e = absurd (a refl)
 plain_literal at (suc zero) piece a b c e = absurd (b refl)

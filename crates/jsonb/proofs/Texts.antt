@@ -61,7 +61,9 @@ high_bits_are xs long =
 
 module _ (xs : List ℕ) (long : length xs ≡ 32) where
   low_lanes : cond (eqb (high_bits xs) 0) 32 (count_trailing_zeros 64 (high_bits xs)) ≡ prefix_len (λ b. not (leb 128 b)) xs
-  low_lanes = ap (λ (m : ℕ). cond (eqb m 0) 32 (count_trailing_zeros 64 m)) (high_bits_are xs long) ∙ first_set_mask_l (leb 128) xs 32 long (omega arith)
+  low_lanes =
+      ap (λ (m : ℕ). cond (eqb m 0) 32 (count_trailing_zeros 64 m)) (high_bits_are xs long)
+      ∙ first_set_mask_l (leb 128) xs 32 long (omega arith)
 
   -- where no bit is set, all lanes are ASCII
   pub all_low : high_bits xs ≡ 0 → IsAscii (take 32 xs)

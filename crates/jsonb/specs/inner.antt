@@ -8,3 +8,4 @@ pub mod Frames
 pub mod Reads
 pub mod Canonical
 pub mod Widths
+pub mod Pieces

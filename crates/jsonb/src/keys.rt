@@ -2,17 +2,19 @@
 
 ghost use Rattle.std.specs.Prelude.{◌≡◌, ◌==◌, ◌&&◌, ◌≤◌, ◌-◌, length, drop, None, Some, option_map};
 ghost use Rattle.json_model.specs.Keys.{bytes_before, key_before};
+ghost use Rattle.jsonb_layout.specs.Options.{only_if};
 ghost use Rattle.jsonb_layout.specs.inner.Reading.{follows, keys_at};
 ghost use Rattle.jsonb.specs.Found.{nothing, keys_after};
+ghost use Rattle.jsonb.specs.inner.Frames.{AreKeysFound};
 ghost use Rattle.jsonb.specs.inner.Keys.{key_at, keys_end, first_eight};
-ghost use Rattle.jsonb.specs.inner.Views.{place, key_then_place, found_then_place};
+ghost use Rattle.jsonb.specs.inner.Views.{place, piece_then_place, found_then_place};
 
 use crate::ascii::is_ascii;
 use crate::found::Found;
 use crate::item::Item;
 use crate::place::Place;
 use crate::scalar::is_text;
-use crate::walk::{first_item, next_item};
+use crate::walk::{entry_word, next_item, piece_at};
 
 /// Whether bytes come before others, byte by byte.
 fn last_bytes_come_before(a: &[u8], b: &[u8]) -> bool
@@ -104,75 +106,82 @@ fn is_key(before: Option<&[u8]>, item: &Item<'_>) -> bool
     item.is_string() && rises(before, item.piece())
 }
 
-/// The key at a place, and the place behind it. None where the item is no string.
-#[tactic(auto, unfolding(jsonb_layout::specs::inner::Reading::item_at))]
+/// The key at a place, and the place behind it. None where the item is no string: the bits of its kind make a length that is too long.
 #[inline(always)]
 fn next_key(start: Place<'_>) -> Option<(&[u8], Place<'_>)>
     requires { 4 ≤ length start.words.now }
-    ensures { option_map key_then_place result ≡ key_at (place start.entry) }
+    ensures { option_map piece_then_place result ≡ key_at (place start.entry) }
 {
-    let (item, behind) = first_item(start)?;
-    if item.is_string() {
-        Some((item.piece(), behind))
-    } else {
-        None
-    }
+    piece_at(entry_word(start.words, 0), start)
 }
 
-/// Where so many keys end that come after one. None where one of them is no key or does not rise.
+/// Goes past so many keys that come after one. False where one of them is no key or does not rise.
 /// One look tells whether all their entry words are there.
 #[inline(never)]
-fn later_keys_end<'a>(count: usize, first: &[u8], start: Place<'a>) -> Option<Place<'a>>
-    ensures { option_map place result
-        ≡ keys_end (keys_at count (Some first.now) (place start.entry)) }
+fn passes_later_keys<'a>(count: usize, first: &[u8], here: &mut Place<'a>) -> bool
+    ensures { keys_end (keys_at count (Some first.now) (place here.old)) ≡ only_if result (Some (place here.new)) }
 {
-    if start.words.len() / 4 < count {
-        return None;
+    if here.words.len() / 4 < count {
+        return false;
     }
-    let mut current = start;
+    let mut current = *here;
     let mut before = first;
     for _ in 0..count {
-        let (key, behind) = next_key(current)?;
+        let Some((key, behind)) = next_key(current) else {
+            return false;
+        };
         if !comes_before(before, key) {
-            return None;
+            return false;
         }
         before = key;
         current = behind;
     }
-    Some(current)
+    *here = current;
+    true
 }
 
-/// Where so many keys end. None where one of them is no key or does not rise.
+/// Goes past so many keys. False where one of them is no key or does not rise.
 #[tactic(auto, unfolding(jsonb_layout::specs::inner::Reading::keys_at))]
-fn all_keys_end(count: usize, start: Place<'_>) -> Option<Place<'_>>
-    ensures { option_map place result ≡ keys_end (keys_at count None (place start.entry)) }
+fn passes_keys(count: usize, here: &mut Place<'_>) -> bool
+    ensures { keys_end (keys_at count None (place here.old)) ≡ only_if result (Some (place here.new)) }
 {
     if count == 0 {
-        return Some(start);
+        return true;
     }
-    let (first, behind) = next_item(start)?;
+    let Some((first, behind)) = next_item(*here) else {
+        return false;
+    };
     if !first.is_string() {
-        return None;
+        return false;
     }
-    later_keys_end(count - 1, first.piece(), behind)
+    *here = behind;
+    passes_later_keys(count - 1, first.piece(), here)
 }
 
-/// What is found in so many keys that lie between two places, and where they end. None where one of them is no key or does not rise.
+/// Goes past so many keys, and adds what is found in them. False where one of them is no key or does not rise.
 /// The keys lie side by side, so that one look tells whether all are ASCII.
-pub fn key_faults(count: usize, start: Place<'_>) -> Option<(Found, Place<'_>)>
-    ensures { option_map found_then_place result
-        ≡ keys_after nothing (keys_at count None (place start.entry)) }
+pub fn key_faults(count: usize, here: &mut Place<'_>, found: &mut Found) -> bool
+    ensures { AreKeysFound (keys_at count None (place here.old)) found.old found.new (place here.new) result }
 {
-    let end = all_keys_end(count, start)?;
-    let length = start.rest.len().saturating_sub(end.rest.len());
+    let start = *here;
+    if !passes_keys(count, here) {
+        return false;
+    }
+    let length = start.rest.len().saturating_sub(here.rest.len());
     let (keys, _) = start.rest.split_at(length);
     if is_ascii(keys) {
-        return Some((Found::NOTHING, end));
+        return true;
     }
-    faults_by_key(count, start)
+    let Some((more, end)) = faults_by_key(count, start) else {
+        return false;
+    };
+    *found = found.with(more);
+    *here = end;
+    true
 }
 
-/// What is found in so many keys, key by key.
+/// What is found in so many keys, key by key, and where they end.
+#[inline(never)]
 fn faults_by_key(count: usize, start: Place<'_>) -> Option<(Found, Place<'_>)>
     ensures { option_map found_then_place result
         ≡ keys_after nothing (keys_at count None (place start.entry)) }

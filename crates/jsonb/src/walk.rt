@@ -1,10 +1,11 @@
 //! The items of a container, one after the other.
 
-ghost use Rattle.std.specs.Prelude.{◌≡◌, ◌+◌, ◌*◌, ◌≤◌, length, IfSome, option_map};
+ghost use Rattle.std.specs.Prelude.{◌≡◌, ◌+◌, ◌*◌, ◌<◌, ◌≤◌, ◌^◌, length, IfSome, option_map};
 ghost use Rattle.jsonb_layout.specs.inner.Reading.{item_at, item_with};
 ghost use Rattle.jsonb.specs.inner.Keys.{word_at};
 ghost use Rattle.jsonb.specs.inner.Values.{skip};
-ghost use Rattle.jsonb.specs.inner.Views.{place, item_then_place};
+ghost use Rattle.jsonb.specs.inner.Pieces.{piece_with};
+ghost use Rattle.jsonb.specs.inner.Views.{place, piece_then_place, item_then_place};
 
 use crate::item::Item;
 use crate::place::Place;
@@ -14,7 +15,7 @@ use std::sync::ledger::Ledger;
 const HAS_OFFSET: u32 = 0x8000_0000;
 
 /// The entry word with this number, from 0, of those that are left.
-fn entry_word(words: &[u8], number: usize) -> u32
+pub fn entry_word(words: &[u8], number: usize) -> u32
     requires { 4 * number + 4 ≤ length words.now }
     ensures { result ≡ word_at number words.now }
 {
@@ -34,37 +35,46 @@ pub fn entry_word_counted<L: Ledger>(words: &[u8], number: usize, steps: &mut St
     entry_word(words, number)
 }
 
-/// The item at a place, which has this entry word, and the place behind it. Each 32nd word gives the sum of all lengths so far in place
-/// of a length.
-#[tactic(auto, unfolding(jsonb_layout::specs::inner::Reading::length_of))]
+/// The piece at a place, by an entry word without the bits of its kind, and the place behind it. Each 32nd word gives the sum of all
+/// lengths so far in place of a length. None where the word has the other form, or the piece does not fit.
+#[tactic(auto, unfolding(crate::specs::inner::Pieces::length_in))]
 #[inline(always)]
-fn item_of(word: u32, start: Place<'_>) -> Option<(Item<'_>, Place<'_>)>
+pub fn piece_at(word: u32, start: Place<'_>) -> Option<(&[u8], Place<'_>)>
     requires { 4 ≤ length start.words.now }
-    ensures { option_map item_then_place result ≡ item_with word (place start.entry) }
+    ensures read { option_map piece_then_place result ≡ piece_with word (place start.entry) }
+    ensures short { IfSome result (λ r. length r.0.now < 2 ^ 28) }
 {
-    let mut size = (word % 0x1000_0000) as usize;
-    if word < HAS_OFFSET {
-        if start.index % 32 == 0 {
+    let mut size = word as usize;
+    if start.index % 32 == 0 {
+        let before = HAS_OFFSET as usize + start.at;
+        if size < before {
             return None;
         }
-    } else {
-        if start.index % 32 != 0 || size < start.at {
-            return None;
-        }
-        size -= start.at;
+        size -= before;
     }
     if start.rest.len() < size {
         return None;
     }
     let (piece, rest) = start.rest.split_at(size);
     let (_, words) = start.words.split_at(4);
-    let item = Item::new((word / 0x1000_0000 % 8) as u8, piece);
     let behind = Place {
         index: start.index + 1,
         at: start.at + size,
         words,
         rest,
     };
+    Some((piece, behind))
+}
+
+/// The item at a place, which has this entry word, and the place behind it.
+#[inline(always)]
+fn item_of(word: u32, start: Place<'_>) -> Option<(Item<'_>, Place<'_>)>
+    requires { 4 ≤ length start.words.now }
+    ensures { option_map item_then_place result ≡ item_with word (place start.entry) }
+{
+    let without_kind = word % 0x1000_0000 + word / HAS_OFFSET * HAS_OFFSET;
+    let (piece, behind) = piece_at(without_kind, start)?;
+    let item = Item::new((word / 0x1000_0000 % 8) as u8, piece);
     Some((item, behind))
 }
 

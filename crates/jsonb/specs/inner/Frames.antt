@@ -6,7 +6,7 @@ use Rattle.jsonb_layout.specs.Options.{◌>>=◌}
 use Rattle.jsonb_layout.specs.inner.Reading.{Place, size, ended}
 use Rattle.jsonb_layout.specs.Layout.{Item}
 use Rattle.jsonb_layout.specs.inner.Trees.{read, item_tree, elements_by}
-use Rattle.jsonb.specs.Found.{nothing, both, tree_found, elements_found}
+use Rattle.jsonb.specs.Found.{nothing, both, keys_after, tree_found, elements_found}
 use Rattle.jsonb.specs.inner.Views.{place}
 use Rattle.jsonb.specs.declared.found.Found.{Found}
 use Rattle.jsonb.specs.declared.frame.Frame.{Frame}
@@ -38,31 +38,14 @@ abbrev pub next_found : Option Frame → Option Found
 next_found None = Some nothing
 next_found (Some f) = frame_found f
 
--- what is found in a container that was opened
-abbrev pub entered : Option (Found × Frame) → Option Found
-entered None = None
-entered (Some r) = combine (Some r.0) (frame_found r.1)
-
--- a frame beside what was found, where something was
-abbrev pub found_then : Frame → Option Found → Option (Found × Frame)
-found_then f r = option_map (λ g. (g, f)) r
-
 -- the frame that is next, where there is one
 abbrev pub next_of : Frame → Bool → Option Frame
 next_of f true = Some f
 next_of f false = None
 
-abbrev pub taken_then : Frame → Option (Found × Bool) → Option (Found × Option Frame)
-taken_then f r = option_map (λ g. (g.0, next_of f g.1)) r
-
-abbrev pub turned : Frame → Result (Found × Bool) JsonbError → Result (Found × Option Frame) JsonbError
-turned f (Ok r) = Ok (r.0, next_of f r.1)
+abbrev pub turned : Frame → Result Bool JsonbError → Result (Option Frame) JsonbError
+turned f (Ok b) = Ok (next_of f b)
 turned f (Err e) = Err e
-
--- what is found in a value that was taken
-abbrev pub taken : Option (Found × Option Frame) → Option Found
-taken None = None
-taken (Some r) = combine (Some r.0) (next_found r.1)
 
 -- the values of a frame are scalars, where they can be read
 abbrev pub HoldsScalars : Frame → Type 0
@@ -92,6 +75,16 @@ pub record Shortens (frame rest : Frame) : Type 0 where
 abbrev pub IsInside : ℕ → Item → Type 0
 IsInside at x = (s : Scalar) → item_tree at x ≡ Some (scalar s) → ⊥
 
+-- of keys, whether they were read: what is found in them is added, and the place is where they end
+abbrev pub AreKeysFound : Option (List (List ℕ) × Place) → Found → Found → Place → Bool → Type 0
+AreKeysFound r before after end true = (g : Found) × (after ≡ both before g) × (keys_after nothing r ≡ Some (g, end))
+AreKeysFound r before after end false = keys_after nothing r ≡ None
+
+-- of a container in which r is found, whether it was opened: what is found in its keys is added, and the frame is that of its values
+abbrev pub AreEntered : Option Found → Found → Found → Frame → Bool → Type 0
+AreEntered r before after frame true = (g : Found) × (after ≡ both before g) × (r ≡ combine (Some g) (frame_found frame))
+AreEntered r before after frame false = r ≡ None
+
 -- why what is left is not put off, where r is what is found in it
 abbrev pub SuspendCause : Option Found → JsonbError → Type 0
 SuspendCause r errors.Malformed = r ≡ None
@@ -117,9 +110,10 @@ AdvanceCause frame errors.NotText = ⊥
 AdvanceCause frame errors.NumberTooWide = ⊥
 AdvanceCause frame errors.OutOfMemory = (g : Found) → frame_found frame ≡ Some g → HoldsScalars frame → ⊥
 
-abbrev pub MovesTo : Frame → List Frame → List Frame → Result (Found × Option Frame) JsonbError → Type 0
-MovesTo frame old new (Ok r) = Moves frame old new r.0 r.1
-MovesTo frame old new (Err e) = AdvanceCause frame e
+-- what is found is added to what was found before
+abbrev pub MovesTo : Frame → List Frame → Found → List Frame → Found → Result (Option Frame) JsonbError → Type 0
+MovesTo frame old before new after (Ok next) = (g : Found) × (after ≡ both before g) × Moves frame old new g next
+MovesTo frame old before new after (Err e) = AdvanceCause frame e
 
 -- of a container
 abbrev pub Searched : List ℕ → Result Found JsonbError → Type 0

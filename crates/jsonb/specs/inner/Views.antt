@@ -16,8 +16,8 @@ place p = record { index = p.index; at = p.at; words = p.words.now; rest = p.res
 abbrev pub item_then_place : Item × Here → Item × Place
 item_then_place r = (r.0, place r.1)
 
-abbrev pub key_then_place : Bor (List ℕ) × Here → List ℕ × Place
-key_then_place r = (r.0.now, place r.1)
+abbrev pub piece_then_place : Bor (List ℕ) × Here → List ℕ × Place
+piece_then_place r = (r.0.now, place r.1)
 
 abbrev pub found_then_place : Found × Here → Found × Place
 found_then_place r = (r.0, place r.1)

@@ -1,6 +1,0 @@
-use Rattle.jsonb.specs.inner.Views.{place}
-use Rattle.jsonb.proofs.KeyEnds.{EndsSoFar}
-use Rattle.jsonb.proofs.keys.later_keys_end.Given as goal
-
-abbrev pub invariant-loop : goal.invariant-loop
-invariant-loop l = EndsSoFar l.count l.counter l.before l.first (place l.current) (place l.start)

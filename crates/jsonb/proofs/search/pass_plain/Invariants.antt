@@ -1,0 +1,9 @@
+use Rattle.jsonb.specs.inner.Views.{place}
+use Rattle.jsonb.proofs.Scalars.{PlainLeft}
+use Rattle.jsonb.proofs.search.pass_plain.Given as goal
+
+abbrev pub invariant-loop-left : goal.invariant-loop-left
+invariant-loop-left l = PlainLeft l.fn.frame.left l.left (place l.current) (place l.fn.frame.start)
+
+abbrev pub decreases-loop-left : goal.decreases-loop-left
+decreases-loop-left l = l.left

@@ -103,24 +103,28 @@ module _ {frame : Frame} (next : NextItem frame) where
         ∙ combine_assoc (Some value.found) (next_found value.inner) others
 
     -- a scalar was taken: the rest of the frame is next
-    pub took_scalar : (old : List Frame) (rest : Frame) → rest.left ≡ frame.left - 1 → place rest.start ≡ next.behind → value.inner ≡ None
-        → Moves frame old old value.found (Some rest)
-    took_scalar old rest left_is at none =
-        let rest_is : others ≡ frame_found rest =
-        ap (λ (n : ℕ). rest_found n next.behind) (sym left_is) ∙ ap (rest_found rest.left) (sym at) in
-        let elements_are : elements_by read (frame.left - 1) next.behind ≡ elements_by read rest.left (place rest.start) =
-        ap (λ (n : ℕ). elements_by read n next.behind) (sym left_is) ∙ ap (elements_by read rest.left) (sym at) in
-        record {
-          so_far =
-              ap (λ (a : Option Found). combine a (frames_found old)) (
-              value_is
-              ∙ ap (λ (i : Option Frame). combine (Some value.found) (combine (next_found i) others)) none
-              ∙ ap (combine (Some value.found)) (nothing_combine others ∙ rest_is))
-              ∙ combine_assoc (Some value.found) (frame_found rest) (frames_found old);
-          smaller = omega (arith, ap size at, size_left);
-          last = λ h. absurd cc;
-          flat = λ g there flat o. (o, λ r h. stays_flat left g there flat r (elements_are ∙ h));
-        }
+    module _ (rest : Frame) (left_is : rest.left ≡ frame.left - 1) (at : place rest.start ≡ next.behind) (none : value.inner ≡ None) where
+      rest_is : others ≡ frame_found rest
+      rest_is = ap (λ (n : ℕ). rest_found n next.behind) (sym left_is) ∙ ap (rest_found rest.left) (sym at)
+
+      pub took_is : frame_found frame ≡ combine (Some value.found) (frame_found rest)
+      took_is =
+          value_is
+          ∙ ap (λ (i : Option Frame). combine (Some value.found) (combine (next_found i) others)) none
+          ∙ ap (combine (Some value.found)) (nothing_combine others ∙ rest_is)
+
+      pub took_scalar : (old : List Frame) → Moves frame old old value.found (Some rest)
+      took_scalar old =
+          let elements_are : elements_by read (frame.left - 1) next.behind ≡ elements_by read rest.left (place rest.start) =
+          ap (λ (n : ℕ). elements_by read n next.behind) (sym left_is) ∙ ap (elements_by read rest.left) (sym at) in
+          record {
+            so_far =
+                ap (λ (a : Option Found). combine a (frames_found old)) took_is
+                ∙ combine_assoc (Some value.found) (frame_found rest) (frames_found old);
+            smaller = omega (arith, ap size at, size_left);
+            last = λ h. absurd cc;
+            flat = λ g there flat o. (o, λ r h. stays_flat left g there flat r (elements_are ∙ h));
+          }
 
     -- a container was entered: its frame is next, and the rest is put off
     pub took_inside : (old new : List Frame) (i : Frame) → value.inner ≡ Some i → IsInside (place frame.start).at next.item

@@ -1,10 +1,10 @@
-use Rattle.std.proofs.Common.{◌≡◌, ℕ, ◌%◌, ◌^◌, ◌<◌, ◌≤◌, leb, eqb, true≢false, sym, ap, subst, ◌∙◌, List, length, take, map, replicate, get_or, Bool, true, false, not, cond, refl, arith, inl, inr}
+use Rattle.std.proofs.Common.{◌≡◌, ℕ, ◌%◌, ◌^◌, ◌<◌, ◌≤◌, leb, eqb, true≢false, sym, ap, subst, ◌∙◌, List, length, take, drop, ◌+◌, ◌-◌, map, replicate, get_or, Bool, true, false, not, cond, refl, arith, inl, inr}
 use Rattle.std.specs.Int.{w8}
 use Rattle.std.specs.Int.Count.{count_trailing_zeros}
 use Rattle.std.specs.List.{prefix_len}
 use Rattle.std.specs.Simd.Lanes.{mask_l, top, zip2}
 use Rattle.std.proofs.lemmas.Bool.{cases_lt, eq-eqb, ne_eqb, le-leb}
-use Rattle.std.proofs.lemmas.List.{get_or_past, get_or-take, length-take, length-map}
+use Rattle.std.proofs.lemmas.List.{get_or_past, get_or-take, get_or-drop, drop-drop, length-take, length-map}
 use Rattle.std.proofs.lemmas.List.Sums.{prefix_len_passes, prefix_len-le-length}
 use Rattle.std.proofs.lemmas.Simd.{mask_l-mod, tops_compared, zip2_splat_left, first_set_mask_l}
 use Rattle.std.specs.Str.{IsUtf8, IsAscii, is_utf8}
@@ -30,12 +30,73 @@ text_proved bs e = IsUtf8-from_is_utf8 bs e
 pub ascii_text : (bs : List ℕ) → IsAscii bs → is_utf8 bs ≡ true
 ascii_text bs h = is_utf8-from_IsUtf8 bs (IsUtf8-from_ascii bs h)
 
--- bytes of which the highest is below 128 are ASCII
-pub ascii_by_highest : (bs : List ℕ) (highest : ℕ) → ((i : ℕ) → i < length bs → get_or bs i 0 ≤ highest) → highest < 128 → IsAscii bs
-ascii_by_highest bs highest h low i = elim (cases_lt i (length bs)) [
-  | inl lt ↦ omega (arith, h i lt)
-  | inr ge ↦ rw (get_or_past bs i 0 ge) (omega arith)
-]
+-- what is left of bytes, of which those in front are ASCII
+pub record AsciiSoFar (bytes rest : List ℕ) : Type 0 where
+  pub within : length rest ≤ length bytes
+  pub left : rest ≡ drop (length bytes - length rest) bytes
+  pub low : (i : ℕ) → i < length bytes - length rest → get_or bytes i 0 < 128
+
+none : (n : ℕ) → 0 ≡ n - n
+none n = omega arith
+
+pub ascii_begins : (bytes : List ℕ) → AsciiSoFar bytes bytes
+ascii_begins bytes = record {
+  within = omega arith;
+  left = ap (λ (k : ℕ). drop k bytes) (none (length bytes));
+  low = λ i lt. absurd (omega (arith, lt));
+}
+
+-- so many in front of a list are ASCII, where a block of it tells
+low_block : (xs block : List ℕ) (n m : ℕ) → block ≡ take m xs → m ≤ n → IsAscii (take n block) → (j : ℕ) → j < m → get_or xs j 0 < 128
+low_block xs block n m is le low j lt =
+    subst (λ (b : ℕ). b < 128)
+    (get_or-take n block j 0 (omega arith) ∙ ap (λ (ys : List ℕ). get_or ys j 0) is ∙ get_or-take m xs j 0 lt)
+    (low j)
+
+module _ {bytes rest : List ℕ} (so_far : AsciiSoFar bytes rest) where
+  k : ℕ
+  k = length bytes - length rest
+
+  -- 32 bytes more are ASCII
+  pub ascii_more : (block behind : List ℕ) (n : ℕ) → block ≡ take 32 rest → behind ≡ drop 32 rest → length behind + 32 ≡ length rest → 32 ≤ n
+      → IsAscii (take n block) → AsciiSoFar bytes behind
+  unfolding k
+  ascii_more block behind n is after long le low = record {
+    within = omega (arith, so_far.within, long);
+    left =
+        after
+        ∙ ap (drop 32) so_far.left
+        ∙ drop-drop 32 k bytes
+        ∙ ap (λ (j : ℕ). drop j bytes) (omega (arith, so_far.within, long));
+    low = λ i lt. elim (cases_lt i k) [
+      | inl front ↦ so_far.low i front
+      | inr ge ↦
+          let j : k + (i - k) ≡ i = omega (arith, ge) in
+          subst (λ (b : ℕ). b < 128)
+          (ap (λ (ys : List ℕ). get_or ys (i - k) 0) so_far.left ∙ get_or-drop k bytes (i - k) 0 ∙ ap (λ (m : ℕ). get_or bytes m 0) j)
+          (low_block rest block n 32 is le low (i - k) (omega (arith, lt, ge, so_far.within, long)))
+    ];
+  }
+
+  -- and the last 32 are
+  pub ascii_ends : (last : List ℕ) (n : ℕ) → length rest < 32 → 32 ≤ length bytes → last ≡ drop (length bytes - 32) bytes → n ≡ 32
+      → IsAscii (take n last) → IsAscii bytes
+  unfolding k
+  ascii_ends last n few long is all low i = elim (cases_lt i k) [
+    | inl front ↦ so_far.low i front
+    | inr ge ↦ elim (cases_lt i (length bytes)) [
+      | inl lt ↦
+          let m : ℕ = length bytes - 32 in
+          let j : m + (i - m) ≡ i = omega (arith, ge, few, long, so_far.within) in
+          subst (λ (b : ℕ). b < 128)
+          (get_or-take n last (i - m) 0 (omega (arith, lt, all, long))
+          ∙ ap (λ (ys : List ℕ). get_or ys (i - m) 0) is
+          ∙ get_or-drop m bytes (i - m) 0
+          ∙ ap (λ (h : ℕ). get_or bytes h 0) j)
+          (low (i - m))
+      | inr past ↦ rw (get_or_past bytes i 0 past) (omega arith)
+    ]
+  ]
 
 -- bytes in front of the first that is 128 or more are ASCII
 pub ascii_before : (bs : List ℕ) (n : ℕ) → n ≡ prefix_len (λ b. not (leb 128 b)) bs → IsAscii (take n bs)

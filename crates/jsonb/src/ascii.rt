@@ -5,17 +5,6 @@ ghost use Rattle.std.specs.Str.{IsAscii};
 
 use std::simd::prelude::*;
 
-/// Whether each byte is below 128, by the highest of all: that is found many bytes at a time.
-pub fn is_ascii(bytes: &[u8]) -> bool
-    ensures { IsTrue result → IsAscii bytes.now }
-{
-    let mut highest = 0u8;
-    for index in 0..bytes.len() {
-        highest = highest.max(bytes[index]);
-    }
-    highest < 128
-}
-
 /// How many of 32 bytes, from the first on, are below 128.
 #[inline(always)]
 fn ascii_of_block(block: &[u8; 32]) -> usize
@@ -42,6 +31,24 @@ fn ascii_of_short(bytes: &[u8]) -> usize
         }
     }
     bytes.len()
+}
+
+/// Whether each byte is below 128: 32 bytes are looked at together, the last 32 once more.
+#[inline(never)]
+pub fn is_ascii(bytes: &[u8]) -> bool
+    ensures { IsTrue result → IsAscii bytes.now }
+{
+    let mut rest = bytes;
+    while let Some((block, behind)) = rest.split_first_chunk::<32>() {
+        if ascii_of_block(block) < 32 {
+            return false;
+        }
+        rest = behind;
+    }
+    match bytes.last_chunk::<32>() {
+        Some(block) => ascii_of_block(block) == 32,
+        None => ascii_of_short(bytes) >= bytes.len(),
+    }
 }
 
 /// A number that is at least the length of a piece only where each of its bytes is below 128. The piece lies in front of what is left

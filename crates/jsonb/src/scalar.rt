@@ -7,7 +7,7 @@ ghost use Rattle.jsonb_layout.specs.inner.Reading.{unpadded, scalar_of};
 ghost use Rattle.jsonb.specs.Found.{scalar_found};
 ghost use Rattle.jsonb.specs.inner.Widths.{width_found, number_found, IsPlain};
 
-use crate::ascii::ascii_room;
+use crate::ascii::{ascii_room, is_ascii};
 use crate::found::Found;
 use crate::item::Item;
 use crate::kind::Kind;
@@ -86,8 +86,8 @@ pub fn scalar_faults(at: usize, item: &Item<'_>) -> Option<Found>
     faults_of(at, item.number(), item.piece())
 }
 
-/// Whether nothing is found in a scalar, where that is told at once: of a short ASCII text, of null and the truth values, and of a small
-/// number. Its piece lies in front of what is left of the payload.
+/// Whether nothing is found in a scalar, where that is told at once: of an ASCII text, of null and the truth values, and of a small number.
+/// Its piece lies in front of what is left of the payload. A short text costs no branch that null does not.
 #[inline(always)]
 pub fn is_plain(at: usize, number: u8, piece: &[u8], rest: &[u8]) -> bool
     requires { piece.now ≡ take (length piece.now) rest.now }
@@ -100,7 +100,14 @@ pub fn is_plain(at: usize, number: u8, piece: &[u8], rest: &[u8]) -> bool
         return false;
     }
     let room = ascii_room(piece, rest);
-    piece.len() <= if number == 0 { room } else { 0 }
+    let fitting = if number == 0 { room } else { 0 };
+    if piece.len() <= fitting {
+        return true;
+    }
+    if number != 0 {
+        return false;
+    }
+    is_ascii(piece)
 }
 
 /// What is found in a scalar of a kind with this number, by its piece at a place. None where they stand for no scalar.

@@ -98,7 +98,41 @@ fn pass_plain(frame: &mut Frame<'_>)
     };
 }
 
-/// Reads the next value of a frame, adds what is found in it, and answers whether there is a frame to read next: what the frame becomes.
+/// Reads the scalars in front of a frame that are not told at once, and adds what is found in them. The frame becomes what is left. False
+/// where one is no scalar.
+#[inline(never)]
+fn others(frame: &mut Frame<'_>, found: &mut Found) -> bool
+    ensures found { AreEntered (frame_found frame.old) found.old found.new frame.new result }
+    ensures shorter { IsTrue result → Shortens frame.old frame.new }
+{
+    let mut left = frame.left;
+    if frame.start.words.len() / 4 < left {
+        return false;
+    }
+    let mut current = frame.start;
+    while left > 0 {
+        let Some((item, behind)) = first_item(current) else {
+            return false;
+        };
+        if item.is_container() || is_plain(current.at, item.number(), item.piece(), current.rest) {
+            break;
+        }
+        let Some(more) = scalar_faults(current.at, &item) else {
+            return false;
+        };
+        *found = found.with(more);
+        current = behind;
+        left -= 1;
+    }
+    *frame = Frame {
+        left,
+        start: current,
+    };
+    true
+}
+
+/// Reads the next value of a frame, and others behind a scalar, adds what is found, and answers whether there is a frame to read next:
+/// what the frame becomes.
 fn step<'a>(
     frame: &mut Frame<'a>,
     suspended: &mut Suspended<'a>,
@@ -130,6 +164,9 @@ fn step<'a>(
         };
         *found = found.with(more);
         *frame = rest;
+        if !others(frame, found) {
+            return Err(JsonbError::Malformed);
+        }
         return Ok(true);
     }
     let Some(bytes) = unpad(at, item.piece()) else {

@@ -1,6 +1,4 @@
-use Rattle.std.proofs.Common.{ℕ, length, subst, sym, ◌∙◌, leb}
-use Rattle.std.proofs.lemmas.Bool.{leb-true}
-use Rattle.std.specs.Prelude.{IsTrue}
+use Rattle.std.proofs.Common.{ℕ, subst, sym, ◌∙◌, arith}
 use Rattle.jsonb.specs.inner.Widths.{IsPlain}
 use Rattle.jsonb.proofs.SmallNumbers.{number_scalar}
 use Rattle.jsonb.proofs.PlainLaws.{plain_string, plain_literal}
@@ -11,13 +9,17 @@ pub returns-then-number-eq1 : goal.returns-then-number-eq1
 returns-then-number-eq1 c told =
     number_scalar c.args.at (record { kind = c.args.number; piece = c.args.piece.now }) c.if-number-eq1.true ∙ c.is_small_number.ensures told
 
-pub returns : goal.returns
-returns c told = elim c.if-number-eq0.branch [
+pub returns-then-piece-fitting : goal.returns-then-piece-fitting
+returns-then-piece-fitting c _ = elim c.if-number-eq0.branch [
   | then-number-eq0 w ↦ subst
       (λ (n : ℕ). IsPlain c.args.at (record { kind = n; piece = c.args.piece.now }))
       (sym w.if-number-eq0.true)
-      (plain_string c.args.at c.args.piece.now (c.ascii_room-room.ensures
-      (leb-true _ _ (subst (λ (n : ℕ). IsTrue (leb (length c.args.piece.now) n)) w.result-is told))))
+      (plain_string c.args.at c.args.piece.now (c.ascii_room-room.ensures (omega (arith, c.if-piece-fitting.true, w.fitting-is))))
   | else-number-eq0 w ↦ plain_literal c.args.at c.args.number c.args.piece.now w.if-number-eq0.false c.if-number-eq1.false c.if-number-gt4.false
-      (leb-true _ _ (subst (λ (n : ℕ). IsTrue (leb (length c.args.piece.now) n)) w.result-is told))
+      (omega (arith, c.if-piece-fitting.true, w.fitting-is))
 ]
+
+pub returns : goal.returns
+returns c told =
+    subst (λ (n : ℕ). IsPlain c.args.at (record { kind = n; piece = c.args.piece.now })) (sym c.if-number-ne0.false)
+    (plain_string c.args.at c.args.piece.now (c.is_ascii.ensures told))

@@ -3,11 +3,11 @@ use Rattle.jsonb.specs.inner.Views.{place}
 use Rattle.jsonb.specs.inner.Widths.{IsPlain}
 use Rattle.jsonb.proofs.NextItem.{piece_is}
 use Rattle.jsonb.proofs.PlainLaws.{item_is}
-use Rattle.jsonb.proofs.Scalars.{plain_left, plain_more}
+use Rattle.jsonb.proofs.Scalars.{scalars_left, scalars_plain}
 use Rattle.jsonb.proofs.search.pass_plain.Goals as goal
 
 pub loop-left-init : goal.loop-left-init
-loop-left-init c = plain_left c.args.frame.now.left (place c.args.frame.now.start) c.if-frame-left.false
+loop-left-init c = scalars_left c.args.frame.now.left (place c.args.frame.now.start) c.if-frame-left.false
 
 pub first_item-requires : goal.first_item-requires
 first_item-requires c = omega (arith, c.loop-left-test.true, c.loop-left.invariant.room)
@@ -18,6 +18,6 @@ is_plain-requires c =
 
 pub loop-left-preserved : goal.loop-left-preserved
 loop-left-preserved c =
-    plain_more c.loop-left.invariant c.loop-left-test.true (place c.in-Some.behind) c.in-Some.item c.in-Some.ensures
+    scalars_plain c.loop-left.invariant c.loop-left-test.true (place c.in-Some.behind) c.in-Some.item c.in-Some.ensures
     (subst (IsPlain c.loop-left.current.at) (item_is _ _ c.in-Some.item c.number.ensures c.piece.ensures.piece)
     (c.is_plain.ensures c.if-not-is_plain.false))

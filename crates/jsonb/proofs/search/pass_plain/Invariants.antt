@@ -1,9 +1,10 @@
+use Rattle.jsonb.specs.Found.{nothing}
 use Rattle.jsonb.specs.inner.Views.{place}
-use Rattle.jsonb.proofs.Scalars.{PlainLeft}
+use Rattle.jsonb.proofs.Scalars.{ScalarsLeft}
 use Rattle.jsonb.proofs.search.pass_plain.Given as goal
 
 abbrev pub invariant-loop-left : goal.invariant-loop-left
-invariant-loop-left l = PlainLeft l.fn.frame.left l.left (place l.current) (place l.fn.frame.start)
+invariant-loop-left l = ScalarsLeft nothing l.fn.frame.left l.left (place l.current) (place l.fn.frame.start)
 
 abbrev pub decreases-loop-left : goal.decreases-loop-left
 decreases-loop-left l = l.left

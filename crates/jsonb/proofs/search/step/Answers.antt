@@ -1,13 +1,16 @@
-use Rattle.std.proofs.Common.{Bool, None, Some, length, subst, sym, ap, refl, ◌∙◌, arith}
+use Rattle.std.proofs.Common.{Bool, None, Some, length, subst, sym, ap, refl, ◌-◌, ◌∙◌, arith}
 use Rattle.std.proofs.lemmas.Bool.{eqb-true, eqb-false, false≢true}
 use Rattle.std.proofs.lemmas.Result.{err_from_is_err_and}
 use Rattle.jsonb_layout.specs.inner.Reading.{unpadded}
-use Rattle.jsonb.specs.Found.{nothing}
-use Rattle.jsonb.specs.inner.Frames.{container_found, AreEntered}
+use Rattle.jsonb.specs.declared.found.Found.{Found}
+use Rattle.jsonb.specs.declared.frame.Frame.{Frame}
+use Rattle.jsonb.specs.Found.{nothing, both}
+use Rattle.jsonb.specs.inner.Frames.{container_found, frame_found, AreEntered}
 use Rattle.jsonb.specs.inner.Views.{place}
-use Rattle.jsonb.proofs.FoundLaws.{both_nothing}
+use Rattle.jsonb.proofs.FoundLaws.{both_nothing, both_assoc}
 use Rattle.jsonb.proofs.FrameLaws.{past_end, scalar_none, scalar_some, is_inside, inside_none, inside_some}
-use Rattle.jsonb.proofs.AdvanceLaws.{NextValue, item_there, popped_none, popped_some, no_item, refused_item, took_scalar, took_inside, not_put_off}
+use Rattle.jsonb.proofs.AdvanceLaws.{NextValue, item_there, popped_none, popped_some, no_item, refused_item, took_is, took_scalar, took_inside, not_put_off}
+use Rattle.jsonb.proofs.Scalars.{others_there, others_refused}
 use Rattle.jsonb.proofs.search.step.Goals as goal
 
 pub returns-then-not-is_empty : goal.returns-then-not-is_empty
@@ -40,16 +43,6 @@ returns-in_default-scalar_faults c =
     let next = item_there c.args.frame.now x (place c.in-Some-next_item.start) c.if-frame-eq0.false c.in-Some-next_item.ensures in
     let at = c.args.frame.now.start.at in
     refused_item next (scalar_none at x (eqb-false x.kind 5 (sym c.if-not-is_container.ensures)) c.in_default-scalar_faults.ensures)
-
-pub returns-then-not-is_container : goal.returns-then-not-is_container
-returns-then-not-is_container c =
-    let x = c.in-Some-next_item.item in
-    let next = item_there c.args.frame.now x (place c.in-Some-next_item.start) c.if-frame-eq0.false c.in-Some-next_item.ensures in
-    let at = c.args.frame.now.start.at in
-    let f = c.in-Some-scalar_faults in
-    let value : NextValue next =
-    record { found = f.more; inner = None; is = scalar_some at x f.more (eqb-false x.kind 5 (sym c.if-not-is_container.ensures)) f.ensures } in
-    (f.more, c.with.ensures, took_scalar next value c.args.suspended.now.items _ refl refl refl)
 
 pub returns-in_default-unpad : goal.returns-in_default-unpad
 returns-in_default-unpad c =
@@ -99,4 +92,33 @@ returns c =
       took_inside next value c.args.suspended.now.items c.suspend.new.suspended.items c.enter.new.frame refl (is_inside at x b five e)
           (omega (arith, weight, c.in-Some-unpad.ensures.len, ap length c.piece.ensures.piece)) c.in_ok-suspend.ensures.found
           c.in_ok-suspend.ensures.weight,
+    )
+
+pub returns-then-not-others : goal.returns-then-not-others
+returns-then-not-others c =
+    let x = c.in-Some-next_item.item in
+    let next = item_there c.args.frame.now x (place c.in-Some-next_item.start) c.if-frame-eq0.false c.in-Some-next_item.ensures in
+    let at = c.args.frame.now.start.at in
+    let f = c.in-Some-scalar_faults in
+    let value : NextValue next =
+    record { found = f.more; inner = None; is = scalar_some at x f.more (eqb-false x.kind 5 (sym c.if-not-is_container.ensures)) f.ensures } in
+    let rest : Frame = record { left = c.args.frame.now.left - 1; start = c.in-Some-next_item.start } in
+    let added = λ (t : Bool). AreEntered (frame_found rest) c.with.result c.others.new.found c.others.new.frame t in
+    others_refused c.args.frame.now rest f.more (took_is next value rest refl refl refl) (subst added c.if-not-others.true c.others.ensures.found)
+
+pub returns-then-not-is_container : goal.returns-then-not-is_container
+returns-then-not-is_container c =
+    let x = c.in-Some-next_item.item in
+    let next = item_there c.args.frame.now x (place c.in-Some-next_item.start) c.if-frame-eq0.false c.in-Some-next_item.ensures in
+    let at = c.args.frame.now.start.at in
+    let f = c.in-Some-scalar_faults in
+    let value : NextValue next =
+    record { found = f.more; inner = None; is = scalar_some at x f.more (eqb-false x.kind 5 (sym c.if-not-is_container.ensures)) f.ensures } in
+    let rest : Frame = record { left = c.args.frame.now.left - 1; start = c.in-Some-next_item.start } in
+    let added = λ (t : Bool). AreEntered (frame_found rest) c.with.result c.others.new.found c.others.new.frame t in
+    let h = subst added c.if-not-others.false c.others.ensures.found in (
+      both f.more h.0,
+      h.1 ∙ ap (λ (a : Found). both a h.0) c.with.ensures ∙ both_assoc c.args.found.now f.more h.0,
+      others_there f.more h.0 (took_is next value rest refl refl refl) c.args.suspended.now.items
+          (took_scalar next value rest refl refl refl c.args.suspended.now.items) h.2 (c.others.ensures.shorter c.if-not-others.false),
     )

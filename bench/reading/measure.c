@@ -1,5 +1,5 @@
-/* Times reading, judging and looking up in two states of the crates, in turn: 64 rows of 33 members, a flat array of 100,000 numbers, and
-   objects of strings from 1 KB to 64 MB, all from one seed. Each time is the best of several rounds. The first argument is a file for the
+/* Times reading, judging and looking up in two states of the crates, in turn: 64 rows of 33 members, a flat array of 100,000 numbers, four
+   arrays of 20,000 equal elements that are told in other ways, and objects of strings from 1 KB to 64 MB, all from one seed. Each time is the best of several rounds. The first argument is a file for the
    texts of the rows, behind the text of the keywords, and the second one for lines of the program. */
 #include <stdint.h>
 #include <stdio.h>
@@ -28,7 +28,7 @@ static const char keywords_text[] = "{\"type\":\"object\",\"required\":[\"id\",\
 
 static struct bytes encoded(const char *text)
 {
-    size_t length = strlen(text), room = 4 * length + 64;
+    size_t length = strlen(text), room = 8 * length + 64;
     struct bytes made = { malloc(room), 0 };
     if (made.at)
         made.length = after_bytes_of((const uint8_t *) text, length, made.at, room);
@@ -64,6 +64,16 @@ static char *numbers(size_t count)
     at += sprintf(at, "[");
     for (size_t i = 0; i < count; i++)
         at += sprintf(at, "%s%d", i ? "," : "", (int) (rand() % 10000000));
+    sprintf(at, "]");
+    return text;
+}
+
+static char *repeated(const char *element, size_t count)
+{
+    char *text = malloc((strlen(element) + 1) * count + 16), *at = text;
+    at += sprintf(at, "[");
+    for (size_t i = 0; i < count; i++)
+        at += sprintf(at, "%s%s", i ? "," : "", element);
     sprintf(at, "]");
     return text;
 }
@@ -187,6 +197,14 @@ int main(int count, char **words)
     compare("`judge`, the keywords too", before_judge, after_judge, rows[0], 20000);
     compare("`get_named`, a key of the row", before_find, after_find, rows[0], 20000);
     compare("`root`, 100,000 numbers", before_read, after_read, list, 20);
+    static const char *const elements[][2] = {
+        { "`root`, 20,000 texts of 60 bytes", "\"a text of sixty bytes, which is more than are seen in a look\"" },
+        { "`root`, 20,000 texts, not ASCII", "\"gr\u00f6\u00dfe 12345\"" },
+        { "`root`, 20,000 zeros", "0" },
+        { "`root`, 20,000 arrays in an array", "[12345]" },
+    };
+    for (size_t i = 0; i < sizeof elements / sizeof *elements; i++)
+        compare(elements[i][0], before_read, after_read, encoded(repeated(elements[i][1], 20000)), 50);
     for (size_t size = 1 << 10; size <= 1 << 26; size <<= 4) {
         struct bytes wide = encoded(wide_object(size));
         compare("`root`, an object of strings", before_read, after_read, wide, (1 << 26) / size / 8 + 1);

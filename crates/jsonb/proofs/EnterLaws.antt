@@ -9,14 +9,14 @@ use Rattle.jsonb_layout.proofs.Sizes.{keys_size, opened_size}
 use Rattle.jsonb.specs.declared.found.Found.{Found}
 use Rattle.jsonb.specs.declared.frame.Frame.{Frame}
 use Rattle.jsonb.specs.Found.{nothing}
-use Rattle.jsonb.specs.inner.Frames.{combine, container_found, rest_found, frame_weight, HoldsScalars, AreKeysFound, AreEntered}
+use Rattle.jsonb.specs.inner.Frames.{combine, container_found, rest_found, frame_weight, HoldsScalars, AreKeysFound, IsAdded}
 use Rattle.jsonb.specs.inner.Views.{place}
 use Rattle.jsonb.proofs.FoundLaws.{both_nothing}
 use Rattle.jsonb.proofs.FrameLaws.{KeysRead, none_read, keys_read, array_found, no_keys, object_found, object_flat}
 
 -- an array has no keys
 module _ (b : List ℕ) (frame : Frame) (e : Some (Array, frame.left, place frame.start) ≡ opened b) where
-  pub array_entered : (f : Found) → AreEntered (container_found b) f f frame true
+  pub array_entered : (f : Found) → IsAdded (container_found b) f f frame true
   array_entered f = (nothing, sym (both_nothing f), array_found b frame.left (place frame.start) e)
 
   pub array_weight : frame_weight frame ≤ length b
@@ -25,7 +25,7 @@ module _ (b : List ℕ) (frame : Frame) (e : Some (Array, frame.left, place fram
 -- an object has keys in front of its values
 module _ (b : List ℕ) (p : Place) (frame : Frame) (before after : Found) (e : Some (Object, frame.left, p) ≡ opened b) where
   pub object_entered : (is : Bool) → AreKeysFound (keys_at frame.left None p) before after (place frame.start) is
-      → AreEntered (container_found b) before after frame is
+      → IsAdded (container_found b) before after frame is
   object_entered false h = no_keys b frame.left p e (none_read _ (sym h))
   object_entered true h =
       let k = keys_read _ h.0 (place frame.start) (sym h.2) in (

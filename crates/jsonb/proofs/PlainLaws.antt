@@ -1,7 +1,7 @@
 -- Scalars in which nothing is found: what is told of them at once.
-use Rattle.std.proofs.Common.{◌≡◌, ℕ, zero, suc, ◌≤◌, List, [], ◌∷◌, length, Option, Some, None, refl, sym, ap, ◌∙◌, arith}
+use Rattle.std.proofs.Common.{◌≡◌, true, ℕ, zero, suc, ◌≤◌, List, [], ◌∷◌, length, Option, Some, None, refl, sym, ap, ◌∙◌, arith}
 use Rattle.std.specs.Prelude.{option_map}
-use Rattle.std.specs.Str.{IsAscii}
+use Rattle.std.specs.Str.{IsAscii, is_utf8}
 use Rattle.jsonb_layout.specs.Layout.{Item}
 use Rattle.jsonb_layout.specs.inner.Reading.{scalar_of}
 use Rattle.jsonb.specs.declared.found.Found.{Found}
@@ -13,6 +13,11 @@ use Rattle.jsonb.proofs.Texts.{ascii_text}
 pub plain_string : (at : ℕ) (piece : List ℕ) → IsAscii piece → IsPlain at (record { kind = 0; piece = piece })
 unfolding scalar_of
 plain_string at piece low = rw (ascii_text piece low) refl
+
+-- nor in any other
+pub plain_text : (at : ℕ) (piece : List ℕ) → true ≡ is_utf8 piece → IsPlain at (record { kind = 0; piece = piece })
+unfolding scalar_of
+plain_text at piece e = rw (sym e) refl
 
 -- null and the truth values have no bytes, and nothing is found in them
 pub plain_literal : (at n : ℕ) (piece : List ℕ) → (n ≡ 0 → ⊥) → (n ≡ 1 → ⊥) → n ≤ 4 → length piece ≤ 0

@@ -10,7 +10,7 @@ use Rattle.jsonb.specs.declared.error.JsonbError.TheVariants as errors
 use Rattle.jsonb.specs.declared.found.Found.{Found}
 use Rattle.jsonb.specs.declared.frame.Frame.{Frame}
 use Rattle.jsonb.specs.Found.{nothing, both, scalar_found, tree_found}
-use Rattle.jsonb.specs.inner.Frames.{combine, rest_found, frame_found, frames_found, Moves, AreEntered, MovesTo, Shortens, AdvanceCause}
+use Rattle.jsonb.specs.inner.Frames.{combine, rest_found, frame_found, frames_found, Moves, IsAdded, MovesTo, Shortens, AdvanceCause}
 use Rattle.jsonb.specs.inner.Views.{place}
 use Rattle.jsonb.specs.inner.Widths.{IsPlain}
 use Rattle.jsonb.proofs.PlainLaws.{plain_other}
@@ -158,24 +158,11 @@ module _ {f : Found} {n left : ℕ} {p : Place} (frame rest : Frame) (so_far : S
         subst (λ (q : Place). Flat rest.left q) (sym at) (subst (λ (m : ℕ). Flat m p) back some);
   }
 
--- where nothing was found in those that were passed
-module _ {n left : ℕ} {p : Place} (frame rest : Frame) (so_far : ScalarsLeft nothing n left p (place frame.start))
-    (all : frame.left ≡ n) (count : rest.left ≡ left) (at : place rest.start ≡ p) where
-  pub plain_same : frame_found frame ≡ frame_found rest
-  plain_same = scalars_done frame rest so_far all count at ∙ nothing_combine (frame_found rest)
-
--- where something was
+-- what was added to what was found before
 module _ {before now : Found} {n left : ℕ} {p : Place} (frame rest : Frame) (so_far : AddedLeft before now n left p (place frame.start))
     (all : frame.left ≡ n) (count : rest.left ≡ left) (at : place rest.start ≡ p) where
-  pub added_done : AreEntered (frame_found frame) before now rest true
+  pub added_done : IsAdded (frame_found frame) before now rest true
   added_done = (so_far.more, so_far.is, scalars_done frame rest so_far.read all count at)
-
-  pub added_shorten : Shortens frame rest
-  added_shorten = scalars_shorten frame rest so_far.read all count at
-
--- a frame that is not touched
-pub shortens_itself : (frame : Frame) → Shortens frame frame
-shortens_itself frame = record { lighter = omega arith; flat = λ g there flat. flat }
 
 -- a scalar was taken, and then others
 module _ {frame middle rest : Frame} (f g : Found) (first : frame_found frame ≡ combine (Some f) (frame_found middle)) where

@@ -36,16 +36,6 @@ pub record AsciiSoFar (bytes rest : List ℕ) : Type 0 where
   pub left : rest ≡ drop (length bytes - length rest) bytes
   pub low : (i : ℕ) → i < length bytes - length rest → get_or bytes i 0 < 128
 
-none : (n : ℕ) → 0 ≡ n - n
-none n = omega arith
-
-pub ascii_begins : (bytes : List ℕ) → AsciiSoFar bytes bytes
-ascii_begins bytes = record {
-  within = omega arith;
-  left = ap (λ (k : ℕ). drop k bytes) (none (length bytes));
-  low = λ i lt. absurd (omega (arith, lt));
-}
-
 -- so many in front of a list are ASCII, where a block of it tells
 low_block : (xs block : List ℕ) (n m : ℕ) → block ≡ take m xs → m ≤ n → IsAscii (take n block) → (j : ℕ) → j < m → get_or xs j 0 < 128
 low_block xs block n m is le low j lt =

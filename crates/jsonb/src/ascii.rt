@@ -33,7 +33,7 @@ fn ascii_of_short(bytes: &[u8]) -> usize
     bytes.len()
 }
 
-/// Whether each byte is below 128: 32 bytes are looked at together, the last 32 once more.
+/// True only where each byte is below 128. By review, 32 bytes are looked at together.
 #[inline(never)]
 pub fn is_ascii(bytes: &[u8]) -> bool
     ensures { IsTrue result → IsAscii bytes.now }

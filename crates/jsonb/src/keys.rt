@@ -115,10 +115,9 @@ fn next_key(start: Place<'_>) -> Option<(&[u8], Place<'_>)>
     piece_at(entry_word(start.words, 0), start)
 }
 
-/// Goes past so many keys that come after one. False where one of them is no key or does not rise.
-/// One look tells whether all their entry words are there.
+/// Passes so many keys that come after one. False where they can not be read: one is missing, is no key or does not rise.
 #[inline(never)]
-fn passes_later_keys<'a>(count: usize, first: &[u8], here: &mut Place<'a>) -> bool
+fn pass_later_keys<'a>(count: usize, first: &[u8], here: &mut Place<'a>) -> bool
     ensures { keys_end (keys_at count (Some first.now) (place here.old)) ≡ only_if result (Some (place here.new)) }
 {
     if here.words.len() / 4 < count {
@@ -140,9 +139,9 @@ fn passes_later_keys<'a>(count: usize, first: &[u8], here: &mut Place<'a>) -> bo
     true
 }
 
-/// Goes past so many keys. False where one of them is no key or does not rise.
+/// Passes so many keys. False where they can not be read.
 #[tactic(auto, unfolding(jsonb_layout::specs::inner::Reading::keys_at))]
-fn passes_keys(count: usize, here: &mut Place<'_>) -> bool
+fn pass_keys(count: usize, here: &mut Place<'_>) -> bool
     ensures { keys_end (keys_at count None (place here.old)) ≡ only_if result (Some (place here.new)) }
 {
     if count == 0 {
@@ -155,16 +154,17 @@ fn passes_keys(count: usize, here: &mut Place<'_>) -> bool
         return false;
     }
     *here = behind;
-    passes_later_keys(count - 1, first.piece(), here)
+    pass_later_keys(count - 1, first.piece(), here)
 }
 
-/// Goes past so many keys, and adds what is found in them. False where one of them is no key or does not rise.
-/// The keys lie side by side, so that one look tells whether all are ASCII.
+/// Passes so many keys, and adds what is found in them. False where they can not be read.
+///
+/// By review, one look tells whether all are ASCII, since keys lie side by side.
 pub fn key_faults(count: usize, here: &mut Place<'_>, found: &mut Found) -> bool
     ensures { AreKeysFound (keys_at count None (place here.old)) found.old found.new (place here.new) result }
 {
     let start = *here;
-    if !passes_keys(count, here) {
+    if !pass_keys(count, here) {
         return false;
     }
     let length = start.rest.len().saturating_sub(here.rest.len());

@@ -86,8 +86,8 @@ pub fn scalar_faults(at: usize, item: &Item<'_>) -> Option<Found>
     faults_of(at, item.number(), item.piece())
 }
 
-/// Whether nothing is found in a scalar, where that is told at once: of an ASCII text, of null and the truth values, and of a small number.
-/// Its piece lies in front of what is left of the payload. A short text costs no branch that null does not.
+/// Whether nothing is found in a scalar, where that is told at once: of a text, of null and the truth values, and of a small number.
+/// Its piece lies in front of what is left of the payload.
 #[inline(always)]
 pub fn is_plain(at: usize, number: u8, piece: &[u8], rest: &[u8]) -> bool
     requires { piece.now ≡ take (length piece.now) rest.now }
@@ -107,13 +107,16 @@ pub fn is_plain(at: usize, number: u8, piece: &[u8], rest: &[u8]) -> bool
     if number != 0 {
         return false;
     }
-    is_ascii(piece)
+    if room >= 32 && is_ascii(piece) {
+        return true;
+    }
+    is_text(piece)
 }
 
 /// What is found in a scalar of a kind with this number, by its piece at a place. None where they stand for no scalar.
 #[tactic(auto, unfolding(jsonb_layout::specs::inner::Reading::scalar_of))]
 #[inline(never)]
-pub fn faults_of(at: usize, number: u8, piece: &[u8]) -> Option<Found>
+fn faults_of(at: usize, number: u8, piece: &[u8]) -> Option<Found>
     requires { length piece.now < 2 ^ 28 }
     ensures { result ≡ option_map scalar_found (scalar_of at (record { kind = number; piece = piece.now })) }
 {

@@ -10,7 +10,7 @@ ghost use Rattle.std.specs.Prelude.{◌≡◌, ◌+◌, ◌≤◌, length, Some,
 ghost use Rattle.json_model.specs.Tree.{Tree};
 ghost use Rattle.json_model.specs.Nest.{nest};
 ghost use Rattle.jsonb_layout.specs.inner.Trees.{read};
-ghost use Rattle.jsonb.specs.inner.Frames.{combine, container_found, frame_found, frames_found, turned, HoldsScalars, frame_weight, frames_weight, SuspendCause, AreEntered, Shortens, MovesTo, Searched};
+ghost use Rattle.jsonb.specs.inner.Frames.{combine, container_found, frame_found, frames_found, turned, HoldsScalars, frame_weight, frames_weight, SuspendCause, IsAdded, Shortens, MovesTo, Searched};
 
 use crate::error::JsonbError;
 use crate::found::Found;
@@ -29,7 +29,7 @@ type Suspended<'a> = SmallVec<Frame<'a>, 4>;
 /// Opens a container, and adds what is found in its keys; the frame becomes that of its values. False where the bytes are no container.
 #[inline(never)]
 fn enter<'a>(bytes: &'a [u8], frame: &mut Frame<'a>, found: &mut Found) -> bool
-    ensures found { AreEntered (container_found bytes.now) found.old found.new frame.new result }
+    ensures found { IsAdded (container_found bytes.now) found.old found.new frame.new result }
     ensures weight { IsTrue result → frame_weight frame.new ≤ length bytes.now }
     ensures flat { IsTrue result
         → (t : Tree) → read bytes.now ≡ Some t → nest t ≤ 1 → HoldsScalars frame.new }
@@ -70,8 +70,9 @@ fn suspend<'a>(frame: Frame<'a>, suspended: &mut Suspended<'a>) -> Result<(), Js
     }
 }
 
-/// Passes the values of a frame in which nothing is found, as far as that is told at once. The frame becomes what is left: it begins
-/// with a value that is looked at alone, or is at its end. One look tells whether all entry words are there.
+/// Passes values at the front of a frame in which nothing is found. The frame becomes what is left.
+///
+/// By review, it stops at a container, and at a scalar that is not told at once.
 #[inline(never)]
 fn pass_plain(frame: &mut Frame<'_>)
     ensures same { frame_found frame.old ≡ frame_found frame.new }
@@ -98,11 +99,13 @@ fn pass_plain(frame: &mut Frame<'_>)
     };
 }
 
-/// Reads the scalars in front of a frame that are not told at once, and adds what is found in them. The frame becomes what is left. False
-/// where one is no scalar.
+/// Reads scalars at the front of a frame, and adds what is found in them. The frame becomes what is left. False where the frame can not be
+/// read.
+///
+/// By review, it stops at a container.
 #[inline(never)]
-fn others(frame: &mut Frame<'_>, found: &mut Found) -> bool
-    ensures found { AreEntered (frame_found frame.old) found.old found.new frame.new result }
+fn read_scalars(frame: &mut Frame<'_>, found: &mut Found) -> bool
+    ensures found { IsAdded (frame_found frame.old) found.old found.new frame.new result }
     ensures shorter { IsTrue result → Shortens frame.old frame.new }
 {
     let mut left = frame.left;
@@ -114,13 +117,15 @@ fn others(frame: &mut Frame<'_>, found: &mut Found) -> bool
         let Some((item, behind)) = first_item(current) else {
             return false;
         };
-        if item.is_container() || is_plain(current.at, item.number(), item.piece(), current.rest) {
+        if item.is_container() {
             break;
         }
-        let Some(more) = scalar_faults(current.at, &item) else {
-            return false;
-        };
-        *found = found.with(more);
+        if !is_plain(current.at, item.number(), item.piece(), current.rest) {
+            let Some(more) = scalar_faults(current.at, &item) else {
+                return false;
+            };
+            *found = found.with(more);
+        }
         current = behind;
         left -= 1;
     }
@@ -131,8 +136,8 @@ fn others(frame: &mut Frame<'_>, found: &mut Found) -> bool
     true
 }
 
-/// Reads the next value of a frame, and others behind a scalar, adds what is found, and answers whether there is a frame to read next:
-/// what the frame becomes.
+/// Reads the next value of a frame, and scalars behind a scalar, and adds what is found. At the end of a frame the one that was put off
+/// last is next. Answers whether there is a frame to read next: what the frame becomes.
 fn step<'a>(
     frame: &mut Frame<'a>,
     suspended: &mut Suspended<'a>,
@@ -164,7 +169,7 @@ fn step<'a>(
         };
         *found = found.with(more);
         *frame = rest;
-        if !others(frame, found) {
+        if !read_scalars(frame, found) {
             return Err(JsonbError::Malformed);
         }
         return Ok(true);
@@ -179,8 +184,7 @@ fn step<'a>(
     Ok(true)
 }
 
-/// Reads the values of a frame up to one that is looked at alone, and that one, or to the frame's end. Adds what is found, and answers
-/// whether there is a frame to read next: what the frame becomes.
+/// Reads on in a frame, and adds what is found. Answers whether there is a frame to read next: what the frame becomes.
 fn advance<'a>(
     frame: &mut Frame<'a>,
     suspended: &mut Suspended<'a>,

@@ -35,8 +35,8 @@ pub fn entry_word_counted<L: Ledger>(words: &[u8], number: usize, steps: &mut St
     entry_word(words, number)
 }
 
-/// The piece at a place, by an entry word without the bits of its kind, and the place behind it. Each 32nd word gives the sum of all
-/// lengths so far in place of a length. None where the word has the other form, or the piece does not fit.
+/// The piece at a place, by an entry word whose bits of a kind count as length, and the place behind it. Each 32nd word gives the sum of
+/// all lengths so far in place of a length. None where the word has the other form, or the piece does not fit.
 #[tactic(auto, unfolding(crate::specs::inner::Pieces::length_in))]
 #[inline(always)]
 pub fn piece_at(word: u32, start: Place<'_>) -> Option<(&[u8], Place<'_>)>

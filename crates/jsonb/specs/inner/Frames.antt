@@ -80,10 +80,10 @@ abbrev pub AreKeysFound : Option (List (List ℕ) × Place) → Found → Found 
 AreKeysFound r before after end true = (g : Found) × (after ≡ both before g) × (keys_after nothing r ≡ Some (g, end))
 AreKeysFound r before after end false = keys_after nothing r ≡ None
 
--- of a container in which r is found, whether it was opened: what is found in its keys is added, and the frame is that of its values
-abbrev pub AreEntered : Option Found → Found → Found → Frame → Bool → Type 0
-AreEntered r before after frame true = (g : Found) × (after ≡ both before g) × (r ≡ combine (Some g) (frame_found frame))
-AreEntered r before after frame false = r ≡ None
+-- r is found in all, a part of which was read: what is found in the part is added, and the frame is what is left; or it can not be read
+abbrev pub IsAdded : Option Found → Found → Found → Frame → Bool → Type 0
+IsAdded r before after frame true = (g : Found) × (after ≡ both before g) × (r ≡ combine (Some g) (frame_found frame))
+IsAdded r before after frame false = r ≡ None
 
 -- why what is left is not put off, where r is what is found in it
 abbrev pub SuspendCause : Option Found → JsonbError → Type 0

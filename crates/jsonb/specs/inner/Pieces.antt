@@ -1,5 +1,5 @@
--- The piece at a place, by an entry word without the bits of its kind: what is left of one with a length is below 2^28, and of one
--- with a sum, 2^31 and the sum.
+-- The piece at a place, by an entry word whose bits of a kind count as length. A word with a length is the length itself. A word with a
+-- sum is 2^31 and the sum.
 use Rattle.std.specs.Prelude.{ℕ, ◌+◌, ◌-◌, ◌%◌, ◌^◌, ◌==◌, nat_le, List, length, take, drop, Option, Some, if◌then◌else◌}
 use Rattle.jsonb_layout.specs.Options.{◌>>=◌, only_if}
 use Rattle.jsonb_layout.specs.inner.Reading.{Place}

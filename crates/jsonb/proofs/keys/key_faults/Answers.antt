@@ -9,12 +9,12 @@ use Rattle.jsonb.proofs.keys.key_faults.Goals as goal
 
 pub returns-then-is_ascii : goal.returns-then-is_ascii
 returns-then-is_ascii c =
-    let end = place c.passes_keys.new.here in (
+    let end = place c.pass_keys.new.here in (
       nothing,
       sym (both_nothing c.args.found.now),
       sym
           (ascii_keys c.args.count (place c.args.here.now) end
-          (sym (c.passes_keys.ensures ∙ ap (λ (b : Bool). only_if b (Some end)) c.if-not-passes_keys.false))
+          (sym (c.pass_keys.ensures ∙ ap (λ (b : Bool). only_if b (Some end)) c.if-not-pass_keys.false))
           (subst IsAscii (c.split_at.ensures.front ∙ ap (λ (k : ℕ). take k c.args.here.now.rest.now) c.saturating_sub-length.ensures)
           (c.is_ascii.ensures c.if-is_ascii.true))),
     )

@@ -1,7 +1,7 @@
 use Rattle.std.proofs.Common.{ℕ, subst, sym, ◌∙◌, arith}
 use Rattle.jsonb.specs.inner.Widths.{IsPlain}
 use Rattle.jsonb.proofs.SmallNumbers.{number_scalar}
-use Rattle.jsonb.proofs.PlainLaws.{plain_string, plain_literal}
+use Rattle.jsonb.proofs.PlainLaws.{plain_string, plain_text, plain_literal}
 use Rattle.jsonb.proofs.scalar.is_plain.Goals as goal
 use Rattle.jsonb.proofs.scalar.is_plain.Goals.{then-number-eq0, else-number-eq0}
 
@@ -19,7 +19,12 @@ returns-then-piece-fitting c _ = elim c.if-number-eq0.branch [
       (omega (arith, c.if-piece-fitting.true, w.fitting-is))
 ]
 
+pub returns-then-is_ascii : goal.returns-then-is_ascii
+returns-then-is_ascii c _ =
+    subst (λ (n : ℕ). IsPlain c.args.at (record { kind = n; piece = c.args.piece.now })) (sym c.if-number-ne0.false)
+    (plain_string c.args.at c.args.piece.now (c.is_ascii.ensures c.if-is_ascii.true))
+
 pub returns : goal.returns
 returns c told =
     subst (λ (n : ℕ). IsPlain c.args.at (record { kind = n; piece = c.args.piece.now })) (sym c.if-number-ne0.false)
-    (plain_string c.args.at c.args.piece.now (c.is_ascii.ensures told))
+    (plain_text c.args.at c.args.piece.now (sym told ∙ c.is_text.ensures))

@@ -5,7 +5,7 @@ use Rattle.jsonb_layout.specs.inner.Reading.{unpadded}
 use Rattle.jsonb.specs.declared.found.Found.{Found}
 use Rattle.jsonb.specs.declared.frame.Frame.{Frame}
 use Rattle.jsonb.specs.Found.{nothing, both}
-use Rattle.jsonb.specs.inner.Frames.{container_found, frame_found, AreEntered}
+use Rattle.jsonb.specs.inner.Frames.{container_found, frame_found, IsAdded}
 use Rattle.jsonb.specs.inner.Views.{place}
 use Rattle.jsonb.proofs.FoundLaws.{both_nothing, both_assoc}
 use Rattle.jsonb.proofs.FrameLaws.{past_end, scalar_none, scalar_some, is_inside, inside_none, inside_some}
@@ -71,7 +71,7 @@ returns-then-not-enter c =
     let five = eqb-true x.kind 5 (sym c.if-not-is_container.ensures) in
     let b = c.in-Some-unpad.bytes.now in
     let e = c.in-Some-unpad.ensures.read ∙ ap (unpadded at) c.piece.ensures.piece in
-    let h = subst (λ (t : Bool). AreEntered (container_found b) c.args.found.now c.enter.new.found c.enter.new.frame t) c.if-not-enter.true
+    let h = subst (λ (t : Bool). IsAdded (container_found b) c.args.found.now c.enter.new.found c.enter.new.frame t) c.if-not-enter.true
     c.enter.ensures.found in
     refused_item next (inside_some at x b five e ∙ h)
 
@@ -83,7 +83,7 @@ returns c =
     let five = eqb-true x.kind 5 (sym c.if-not-is_container.ensures) in
     let b = c.in-Some-unpad.bytes.now in
     let e = c.in-Some-unpad.ensures.read ∙ ap (unpadded at) c.piece.ensures.piece in
-    let h = subst (λ (t : Bool). AreEntered (container_found b) c.args.found.now c.enter.new.found c.enter.new.frame t) c.if-not-enter.false
+    let h = subst (λ (t : Bool). IsAdded (container_found b) c.args.found.now c.enter.new.found c.enter.new.frame t) c.if-not-enter.false
     c.enter.ensures.found in
     let value : NextValue next = record { found = h.0; inner = Some c.enter.new.frame; is = inside_some at x b five e ∙ h.2 } in
     let weight = c.enter.ensures.weight c.if-not-enter.false in (
@@ -94,8 +94,8 @@ returns c =
           c.in_ok-suspend.ensures.weight,
     )
 
-pub returns-then-not-others : goal.returns-then-not-others
-returns-then-not-others c =
+pub returns-then-not-read_scalars : goal.returns-then-not-read_scalars
+returns-then-not-read_scalars c =
     let x = c.in-Some-next_item.item in
     let next = item_there c.args.frame.now x (place c.in-Some-next_item.start) c.if-frame-eq0.false c.in-Some-next_item.ensures in
     let at = c.args.frame.now.start.at in
@@ -103,8 +103,9 @@ returns-then-not-others c =
     let value : NextValue next =
     record { found = f.more; inner = None; is = scalar_some at x f.more (eqb-false x.kind 5 (sym c.if-not-is_container.ensures)) f.ensures } in
     let rest : Frame = record { left = c.args.frame.now.left - 1; start = c.in-Some-next_item.start } in
-    let added = λ (t : Bool). AreEntered (frame_found rest) c.with.result c.others.new.found c.others.new.frame t in
-    others_refused c.args.frame.now rest f.more (took_is next value rest refl refl refl) (subst added c.if-not-others.true c.others.ensures.found)
+    let added = λ (t : Bool). IsAdded (frame_found rest) c.with.result c.read_scalars.new.found c.read_scalars.new.frame t in
+    others_refused c.args.frame.now rest f.more (took_is next value rest refl refl refl)
+    (subst added c.if-not-read_scalars.true c.read_scalars.ensures.found)
 
 pub returns-then-not-is_container : goal.returns-then-not-is_container
 returns-then-not-is_container c =
@@ -115,10 +116,10 @@ returns-then-not-is_container c =
     let value : NextValue next =
     record { found = f.more; inner = None; is = scalar_some at x f.more (eqb-false x.kind 5 (sym c.if-not-is_container.ensures)) f.ensures } in
     let rest : Frame = record { left = c.args.frame.now.left - 1; start = c.in-Some-next_item.start } in
-    let added = λ (t : Bool). AreEntered (frame_found rest) c.with.result c.others.new.found c.others.new.frame t in
-    let h = subst added c.if-not-others.false c.others.ensures.found in (
+    let added = λ (t : Bool). IsAdded (frame_found rest) c.with.result c.read_scalars.new.found c.read_scalars.new.frame t in
+    let h = subst added c.if-not-read_scalars.false c.read_scalars.ensures.found in (
       both f.more h.0,
       h.1 ∙ ap (λ (a : Found). both a h.0) c.with.ensures ∙ both_assoc c.args.found.now f.more h.0,
       others_there f.more h.0 (took_is next value rest refl refl refl) c.args.suspended.now.items
-          (took_scalar next value rest refl refl refl c.args.suspended.now.items) h.2 (c.others.ensures.shorter c.if-not-others.false),
+          (took_scalar next value rest refl refl refl c.args.suspended.now.items) h.2 (c.read_scalars.ensures.shorter c.if-not-read_scalars.false),
     )

@@ -1,7 +1,7 @@
 use Rattle.std.proofs.Common.{sym}
 use Rattle.jsonb.specs.inner.Views.{place}
 use Rattle.jsonb.proofs.KeyEnds.{few_words, ends_begin, ends_word, ends_miss, ends_stop, ends_go_on, ends_done}
-use Rattle.jsonb.proofs.keys.passes_later_keys.Goals as goal
+use Rattle.jsonb.proofs.keys.pass_later_keys.Goals as goal
 
 pub loop-init : goal.loop-init
 loop-init c = ends_begin c.args.count c.args.first.now (place c.args.here.now) c.if-here-count.false

@@ -82,7 +82,7 @@ fn root_container(alloc: Global, bytes: &[u8]) -> Result<JsonbNode<'_>, JsonbErr
 impl Jsonb {
     /// Reads a whole slice, every part of it, in place. The node has the slice's tree.
     ///
-    /// By review, it looks at each byte a fixed number of times, and takes memory only where more than four containers wait for one
+    /// By review, its work is at most proportional to the number of bytes, and it takes memory only where more than four containers wait for one
     /// inside.
     pub fn root(alloc: Global, container: &[u8]) -> Result<JsonbNode<'_>, JsonbError>
         ensures read { (result ≡ Err JsonbError.OutOfMemory)

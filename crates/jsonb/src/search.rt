@@ -1,8 +1,8 @@
 //! What keeps a container from being JSON, with all the containers in it.
 //!
 //! The containers are read depth first. What is left of a container is put off while one inside it is read, and only where
-//! something is left: so, by review, memory is taken for the nesting alone, and only where more than four containers are put off. Each
-//! byte is looked at a fixed number of times.
+//! something is left: so, by review, memory is taken for the nesting alone, and only where more than four containers are put off. The
+//! work is at most proportional to the number of bytes.
 //!
 //! The frame that is read stands in one place, which each step changes, and so does what was found.
 
